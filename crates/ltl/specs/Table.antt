@@ -1,0 +1,24 @@
+-- The tree that an LTL table stands for.
+use Prim.Native.Nat.{ℕ}
+use mathlib.Core.List.{List, [], _∷_}
+use lib.ListN.{getD}
+use Rattle.table.specs.Node.{Node, node, root}
+use Rattle.ltl.specs.Tree.{Ltl, ltrue, lvar, lnot, land, lor, lnext, luntil}
+
+-- What each kind stands for, kind by kind from 0 on, with the trees that stand under its operands' numbers.
+unfoldable pub treeOfNode : (ℕ → Ltl) → Node → Ltl
+treeOfNode x (node k l r) =
+    getD (
+    ltrue
+    ∷ lvar l
+    ∷ lnot (x l)
+    ∷ land (x l) (x r)
+    ∷ lor (x l) (x r)
+    ∷ lnext (x l)
+    ∷ luntil (x l) (x r)
+    ∷ []
+    ) k ltrue
+
+-- The tree of a table is its root's.
+unfoldable pub treeOf : List ℕ → Ltl
+treeOf t = root ltrue treeOfNode t

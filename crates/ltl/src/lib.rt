@@ -1,0 +1,1 @@
+// LTL tables. The definitions that contracts cite are in specs/.

@@ -1,0 +1,1 @@
+// PSL tables. The definitions that contracts cite are in specs/.

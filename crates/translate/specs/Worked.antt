@@ -1,0 +1,42 @@
+-- The worked run: (psl (abort (next (strong (var 1))) (var 0))), its two tables and the PSL verdicts on its four traces.
+use mathlib.Core.Path.{_≡_}
+use mathlib.Core.List.{List, [], _∷_}
+use Prim.Native.Nat.{ℕ}
+use Rattle.table.specs.Node.{Node, numbersOf}
+use Rattle.psl.specs.Formula.{var, Formula, strong, next, abort}
+use Rattle.psl.specs.Table.{formulaOf}
+use Rattle.psl.specs.Known.{Yes, No}
+use Rattle.translate.specs.Emitted.{trueN, varN, notN, andN, orN, nextN, emitted, emittedSize}
+
+abbrev pub sentence : Formula
+sentence = abort (next (strong (var 1))) (var 0)
+
+abbrev pub sheet : List ℕ
+sheet = 1 ∷ 1 ∷ 0 ∷ 5 ∷ 0 ∷ 0 ∷ 8 ∷ 1 ∷ 0 ∷ 1 ∷ 0 ∷ 0 ∷ 10 ∷ 2 ∷ 3 ∷ []
+
+abbrev pub nodes : List Node
+nodes =
+    trueN
+    ∷ notN 0
+    ∷ varN 0
+    ∷ notN 1
+    ∷ andN 2 3
+    ∷ orN 1 4
+    ∷ varN 1
+    ∷ notN 1
+    ∷ andN 6 7
+    ∷ orN 5 8
+    ∷ nextN 9
+    ∷ notN 1
+    ∷ andN 10 11
+    ∷ orN 5 12
+    ∷ []
+
+pub record Worked : Type 0 where
+  pub reads : formulaOf sheet ≡ sentence
+  pub size : emittedSize sentence ≡ 14
+  pub table : emitted sentence ≡ numbersOf nodes
+  pub trace1 : Yes sentence (1 ∷ []) []
+  pub trace2 : No sentence (0 ∷ 0 ∷ []) []
+  pub trace3 : Yes sentence [] (2 ∷ [])
+  pub trace4 : No sentence [] []
