@@ -9,10 +9,10 @@ use lib.ListN.{getD}
 use Rattle.trace.specs.Letter.{bit}
 use Rattle.trace.specs.Moments.{letterAt}
 use Rattle.trace.specs.Word.{Slot, flip, Word, suffix, wordOf}
+use Rattle.trace.proofs.WordLaw.{cut-past}
 use Rattle.psl.specs.Formula.{btrue, strong}
 use Rattle.psl.specs.Meaning.{Satisfies, sat, Holds}
 use Rattle.psl.specs.Known.{p, Known}
-use Rattle.psl.proofs.OrderLaw.{cut-past}
 
 -- A property of every number below one.
 below-one : (P : ℕ → Type 0) → P 0 → (j : ℕ) → j < 1 → P j

@@ -1,2 +1,4 @@
 pub mod OrderLaw
 pub mod KnownLaw
+pub mod EmptyLaw
+pub mod EndLaw

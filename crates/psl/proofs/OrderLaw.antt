@@ -7,6 +7,7 @@ use mathlib.Core.Bool.{Bool, true, false, cond}
 use native.Mathlib.Omega.{arith}
 use lib.Dec.{T, ltb, ltb→lt, nltb→le}
 use Rattle.trace.specs.Word.{Slot, over, plain, top, bottom, Word, filled, InWord, suffix, flip, dual, cut}
+use Rattle.trace.proofs.WordLaw.{cut-past}
 use Rattle.psl.specs.Formula.{BoolExpr, Formula, weak, strong, fnot, fand, next, until, abort}
 use Rattle.psl.specs.Meaning.{Satisfies, Holds}
 
@@ -57,13 +58,6 @@ below-dual w v p k = go (p k)
 cond-top : (c : Bool) (s : Slot) → s ≡ top → cond c s top ≡ top
 cond-top true s e = e
 cond-top false s e = refl
-
-cond-past : (c : Bool) (s : Slot) → (T c → ⊥) → cond c s top ≡ top
-cond-past true s h = absurd (h tt)
-cond-past false s h = refl
-
-pub cut-past : (w : Word) (j k : ℕ) → j ≤ k → cut j w k ≡ top
-cut-past w j k h = cond-past (ltb k j) (w k) (λ t. omega (arith, ltb→lt k j t))
 
 pub not-bottom : (b : BoolExpr) (s : Slot) → Satisfies b s → s ≡ bottom → ⊥
 not-bottom b s h e = subst (Satisfies b) e h

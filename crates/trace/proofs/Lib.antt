@@ -1,1 +1,3 @@
 pub mod MomentsLaw
+pub mod WordLaw
+pub mod TestLaw

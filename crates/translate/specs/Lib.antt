@@ -1,3 +1,4 @@
+pub mod Translation
 pub mod Emitted
 pub mod Claim
 pub mod Worked

@@ -1,0 +1,26 @@
+-- What a formula is on the empty trace.
+use mathlib.Core.Path.{_≡_, refl}
+use mathlib.Core.Logic.{inl, inr, _↔_}
+use mathlib.Core.List.{[]}
+use lib.Dec.{T}
+use Rattle.trace.specs.Moments.{letterAt}
+use Rattle.trace.specs.Word.{over}
+use Rattle.trace.proofs.TestLaw.{not-iff, and-iff}
+use Rattle.psl.specs.Formula.{Formula, weak, strong, fnot, fand, next, until, abort}
+use Rattle.psl.specs.Meaning.{Holds, HoldsOn}
+use Rattle.psl.specs.Empty.{onEmpty}
+use Rattle.psl.proofs.OrderLaw.{always}
+
+holds-over : (f : Formula) → Holds f (always over) ↔ T (onEmpty f)
+unfolding onEmpty
+holds-over (weak b) = (λ h. tt, λ h. inl (λ g. g))
+holds-over (strong b) = (λ h. h .0, λ h. absurd h)
+holds-over (fnot f) = not-iff (Holds f (always over)) (onEmpty f) (holds-over f)
+holds-over (fand f g) = and-iff (Holds f (always over)) (Holds g (always over)) (onEmpty f) (onEmpty g) (holds-over f) (holds-over g)
+holds-over (next f) = (λ h. h .0, λ h. absurd h)
+holds-over (until f g) = (λ h. h .1, λ h. absurd h)
+holds-over (abort f b) = (λ h. elim h [ inl x ↦ holds-over f .0 x | inr y ↦ absurd (y .1) ], λ h. inl (holds-over f .1 h))
+
+pub holds-empty : (f : Formula) → HoldsOn f [] [] ↔ T (onEmpty f)
+unfolding letterAt
+holds-empty f = holds-over f

@@ -1,0 +1,25 @@
+-- The end of a finite word: at its last letter next fails, and until is its second operand.
+use Prim.Native.Nat.{ℕ, zero, suc, _<_}
+use mathlib.Core.Path.{_≡_, ap, subst, sym, fun-ext}
+use mathlib.Core.Logic.{_↔_}
+use native.Mathlib.Omega.{arith}
+use native.Mathlib.Nat.{zero-add}
+use Rattle.trace.specs.Word.{Word, InWord, suffix}
+use Rattle.psl.specs.Formula.{Formula, next, until}
+use Rattle.psl.specs.Meaning.{Holds}
+
+abbrev Last : Word → Type 0
+Last w = (k : ℕ) → InWord w (suc k) → ⊥
+
+pub suffix-zero : (w : Word) → suffix 0 w ≡ w
+suffix-zero w = fun-ext (λ k. ap w (zero-add k))
+
+pub next-last : (f : Formula) (w : Word) → Last w → Holds (next f) w → ⊥
+next-last f w l h = l 0 (h .0)
+
+pub until-last : (f g : Formula) (w : Word) → Last w → Holds (until f g) w ↔ (InWord w 0 × Holds g w)
+until-last f g w l = (λ h. go (h .0) (h .1) (h .2), λ h. (0, h .0, subst (Holds g) (sym (suffix-zero w)) (h .1), λ j u. absurd (omega arith)))
+  where
+    go : (k : ℕ) → InWord w k → Holds g (suffix k w) → InWord w 0 × Holds g w
+    go zero i h = (i, subst (Holds g) (suffix-zero w) h)
+    go (suc k) i h = absurd (l k i)
