@@ -1,1 +1,2 @@
 pub mod KnownLaw
+pub mod TreeLaw

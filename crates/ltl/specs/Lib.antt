@@ -1,4 +1,6 @@
 pub mod Tree
 pub mod Meaning
 pub mod Table
+pub mod Trees
+pub mod Sound
 pub mod Known

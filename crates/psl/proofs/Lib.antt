@@ -2,3 +2,4 @@ pub mod OrderLaw
 pub mod KnownLaw
 pub mod EmptyLaw
 pub mod EndLaw
+pub mod PartLaw

@@ -1,11 +1,11 @@
 -- Laws of tables of triples: numbers and nodes, the values of nodes, and lists of nodes that grow at their end.
-use Prim.Native.Nat.{ℕ, zero, suc, _+_, _*_, _-_, _≤_, _<_}
+use Prim.Native.Nat.{ℕ, zero, suc, _+_, _*_, _-_, _/_, _≤_, _<_}
 use mathlib.Core.Path.{_≡_, refl, sym, ap, subst, _∙_}
 use mathlib.Core.List.{List, [], _∷_, _++_}
 use native.Mathlib.Omega.{arith}
 use lib.ListN.{length, getD, take, drop, take-append-drop, length-take, length-append, List·getD-append}
 use lib.Seq.{getD-at}
-use Rattle.table.specs.Node.{Node, node, nodesOf, numbersOf, _▸_, last, look, grow, values, root}
+use Rattle.table.specs.Node.{Node, node, nodesOf, numbersOf, count, kindOf, leftOf, rightOf, _▸_, last, look, grow, values, root, valueAt}
 
 -- ── Numbers and nodes ──
 
@@ -16,6 +16,28 @@ nodes-numbers (node k l r ∷ ns) = ap (λ (ms : List Node). node k l r ∷ ms) 
 pub length-numbers : (ns : List Node) → length (numbersOf ns) ≡ 3 * length ns
 length-numbers [] = refl
 length-numbers (node k l r ∷ ns) = omega (arith, length-numbers ns)
+
+pub length-nodes : (t : List ℕ) → length (nodesOf t) ≡ count t
+length-nodes [] = refl
+length-nodes (k ∷ []) = refl
+length-nodes (k ∷ l ∷ []) = refl
+length-nodes (k ∷ l ∷ r ∷ t) = omega (arith, length-nodes t)
+
+-- Node i of a list of numbers.
+pub node-at : (t : List ℕ) (i : ℕ) → 3 * i + 3 ≤ length t → getD (nodesOf t) i (node 0 0 0) ≡ node (kindOf t i) (leftOf t i) (rightOf t i)
+node-at [] i h = absurd (omega arith)
+node-at (k ∷ []) i h = absurd (omega arith)
+node-at (k ∷ l ∷ []) i h = absurd (omega arith)
+node-at (k ∷ l ∷ r ∷ t) zero h = refl
+node-at (k ∷ l ∷ r ∷ t) (suc i) h = node-at t i (omega arith) ∙ same
+  where
+    past : (j m : ℕ) → m ≡ suc (suc (suc j)) → getD t j 0 ≡ getD (k ∷ l ∷ r ∷ t) m 0
+    past j m e = sym (ap (λ (n : ℕ). getD (k ∷ l ∷ r ∷ t) n 0) e)
+
+    same : node (kindOf t i) (leftOf t i) (rightOf t i)
+        ≡ node (kindOf (k ∷ l ∷ r ∷ t) (suc i)) (leftOf (k ∷ l ∷ r ∷ t) (suc i)) (rightOf (k ∷ l ∷ r ∷ t) (suc i))
+    same =
+        cc (past (3 * i) (3 * suc i) (omega arith), past (3 * i + 1) (3 * suc i + 1) (omega arith), past (3 * i + 2) (3 * suc i + 2) (omega arith))
 
 pub length-more : {A : Type 0} (xs : List A) (x : A) → length (xs ▸ x) ≡ length xs + 1
 length-more xs x = length-append xs (x ∷ [])
@@ -61,6 +83,24 @@ module _ {A : Type 0} (d : A) (make : (ℕ → A) → Node → A) where
   pub value-node : (ns : List Node) (i : ℕ) → i < length ns
       → look d make (grow d make [] ns) i ≡ make (look d make (grow d make [] (take i ns))) (getD ns i (node 0 0 0))
   value-node ns i h = ap (look d make (grow d make [] ns)) (omega arith) ∙ grow-node ns [] i h
+
+  pub length-values : (t : List ℕ) → length (values d make t) ≡ count t
+  length-values t = length-grow [] (nodesOf t) ∙ omega (arith, length-nodes t)
+
+  -- The root is the last node.
+  pub root-at : (t : List ℕ) → root d make t ≡ valueAt d make t (count t - 1)
+  root-at t = ap (valueAt d make t) (omega (arith, length-values t))
+
+  -- Node i's value, by values x that agree with the table's below i.
+  pub value-by : (t : List ℕ) (i : ℕ) → 3 * i + 3 ≤ length t
+      → (x : ℕ → A) × (valueAt d make t i ≡ make x (node (kindOf t i) (leftOf t i) (rightOf t i))) × ((j : ℕ) → j < i → x j ≡ valueAt d make t j)
+  value-by t i h =
+      let l = length-nodes t in
+      let ns = nodesOf t in (
+        look d make (grow d make [] (take i ns)),
+        value-node ns i (omega arith) ∙ ap (make (look d make (grow d make [] (take i ns)))) (node-at t i h),
+        λ j u. look-take ns i j u (omega arith),
+      )
 
   -- ── A list of nodes that grows at its end ──
 

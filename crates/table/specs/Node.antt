@@ -1,5 +1,5 @@
 -- Tables of triples, as both kinds of table are: the nodes that a list of numbers stands for, and the value of each node by those before it.
-use Prim.Native.Nat.{ℕ, _-_}
+use Prim.Native.Nat.{ℕ, _+_, _*_, _-_, _/_}
 use mathlib.Core.List.{List, [], _∷_, _++_}
 use lib.ListN.{length, getD}
 
@@ -18,6 +18,19 @@ nodesOf (k ∷ l ∷ r ∷ t) = node k l r ∷ nodesOf t
 abbrev pub numbersOf : List Node → List ℕ
 numbersOf [] = []
 numbersOf (node k l r ∷ ns) = k ∷ l ∷ r ∷ numbersOf ns
+
+-- How many nodes a list of numbers has, and the three numbers of node i.
+abbrev pub count : List ℕ → ℕ
+count t = length t / 3
+
+abbrev pub kindOf : List ℕ → ℕ → ℕ
+kindOf t i = getD t (3 * i) 0
+
+abbrev pub leftOf : List ℕ → ℕ → ℕ
+leftOf t i = getD t (3 * i + 1) 0
+
+abbrev pub rightOf : List ℕ → ℕ → ℕ
+rightOf t i = getD t (3 * i + 2) 0
 
 -- A list with one more at its end, which has the number `last`.
 infixl 20 _▸_
@@ -43,3 +56,7 @@ module _ {A : Type 0} (d : A) (make : (ℕ → A) → Node → A) where
 
   abbrev pub root : List ℕ → A
   root t = look (values t) (last (values t))
+
+  -- The value of node i.
+  abbrev pub valueAt : List ℕ → ℕ → A
+  valueAt t i = look (values t) i

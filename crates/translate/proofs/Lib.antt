@@ -1,5 +1,6 @@
 pub mod MarkedLaw
 pub mod KeepsLaw
 pub mod WalkLaw
+pub mod StoredLaw
 pub mod TranslatesLaw
 pub mod WorkedLaw

@@ -1,4 +1,5 @@
 pub mod Translation
 pub mod Emitted
 pub mod Claim
+pub mod Stored
 pub mod Worked

@@ -1,0 +1,25 @@
+-- Tables whose nodes fit together: what an accepted LTL table gives to those that walk over it.
+use Prim.Native.Nat.{ℕ, _<_}
+use mathlib.Core.List.{List, [], _∷_}
+use lib.ListN.{getD}
+use Rattle.trace.specs.Letter.{signals}
+use Rattle.table.specs.Node.{count, kindOf, leftOf, rightOf}
+
+-- What the left and right number of node i are, kind by kind from 0 on; there is no other kind.
+unfoldable pub Fits : List ℕ → ℕ → Type 0
+Fits t i =
+    let l = leftOf t i in
+    let r = rightOf t i in
+    getD (
+    Unit {0}
+    ∷ (l < signals)
+    ∷ (l < i)
+    ∷ ((l < i) × (r < i))
+    ∷ ((l < i) × (r < i))
+    ∷ (l < i)
+    ∷ ((l < i) × (r < i))
+    ∷ []
+    ) (kindOf t i) ⊥
+
+abbrev pub Sound : List ℕ → Type 0
+Sound t = (i : ℕ) → i < count t → Fits t i

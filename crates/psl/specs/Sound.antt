@@ -1,0 +1,36 @@
+-- Tables whose nodes fit together: what an accepted PSL table gives to those that walk over it.
+use Prim.Native.Nat.{ℕ, _≤_, _<_}
+use mathlib.Core.List.{List, [], _∷_}
+use lib.ListN.{getD}
+use Rattle.trace.specs.Letter.{signals}
+use Rattle.table.specs.Node.{count, kindOf, leftOf, rightOf}
+
+-- Node j is below node i, and of the one sort or the other.
+abbrev pub Boolean : List ℕ → ℕ → ℕ → Type 0
+Boolean t i j = (j < i) × (kindOf t j < 4)
+
+abbrev pub Formula : List ℕ → ℕ → ℕ → Type 0
+Formula t i j = (j < i) × (4 ≤ kindOf t j)
+
+-- What the left and right number of node i are, kind by kind from 0 on; there is no other kind.
+unfoldable pub Fits : List ℕ → ℕ → Type 0
+Fits t i =
+    let l = leftOf t i in
+    let r = rightOf t i in
+    getD (
+    Unit {0}
+    ∷ (l < signals)
+    ∷ Boolean t i l
+    ∷ (Boolean t i l × Boolean t i r)
+    ∷ Boolean t i l
+    ∷ Boolean t i l
+    ∷ Formula t i l
+    ∷ (Formula t i l × Formula t i r)
+    ∷ Formula t i l
+    ∷ (Formula t i l × Formula t i r)
+    ∷ (Formula t i l × Boolean t i r)
+    ∷ []
+    ) (kindOf t i) ⊥
+
+abbrev pub Sound : List ℕ → Type 0
+Sound t = (i : ℕ) → i < count t → Fits t i
