@@ -5,12 +5,11 @@ use lib.ListN.{getD}
 use Rattle.trace.specs.Letter.{signals}
 use Rattle.table.specs.Node.{count, kindOf, leftOf, rightOf}
 
--- What the left and right number of node i are, kind by kind from 0 on; there is no other kind.
-unfoldable pub Fits : List ℕ → ℕ → Type 0
-Fits t i =
+-- What the left and right number of node i are, kind by kind from 0 on.
+unfoldable pub operandsFit : List ℕ → ℕ → List (Type 0)
+operandsFit t i =
     let l = leftOf t i in
     let r = rightOf t i in
-    getD (
     Unit {0}
     ∷ (l < signals)
     ∷ (l < i)
@@ -19,7 +18,10 @@ Fits t i =
     ∷ (l < i)
     ∷ ((l < i) × (r < i))
     ∷ []
-    ) (kindOf t i) ⊥
+
+-- There is no other kind.
+abbrev pub FitsKind : List ℕ → ℕ → ℕ → Type 0
+FitsKind t i k = getD (operandsFit t i) k ⊥
 
 abbrev pub Sound : List ℕ → Type 0
-Sound t = (i : ℕ) → i < count t → Fits t i
+Sound t = (i : ℕ) → i < count t → FitsKind t i (kindOf t i)

@@ -3,3 +3,4 @@ pub mod KnownLaw
 pub mod EmptyLaw
 pub mod EndLaw
 pub mod PartLaw
+pub mod SoundLaw

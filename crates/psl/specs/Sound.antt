@@ -12,12 +12,11 @@ Boolean t i j = (j < i) × (kindOf t j < 4)
 abbrev pub Formula : List ℕ → ℕ → ℕ → Type 0
 Formula t i j = (j < i) × (4 ≤ kindOf t j)
 
--- What the left and right number of node i are, kind by kind from 0 on; there is no other kind.
-unfoldable pub Fits : List ℕ → ℕ → Type 0
-Fits t i =
+-- What the left and right number of node i are, kind by kind from 0 on.
+unfoldable pub operandsFit : List ℕ → ℕ → List (Type 0)
+operandsFit t i =
     let l = leftOf t i in
     let r = rightOf t i in
-    getD (
     Unit {0}
     ∷ (l < signals)
     ∷ Boolean t i l
@@ -30,7 +29,10 @@ Fits t i =
     ∷ (Formula t i l × Formula t i r)
     ∷ (Formula t i l × Boolean t i r)
     ∷ []
-    ) (kindOf t i) ⊥
+
+-- There is no other kind.
+abbrev pub FitsKind : List ℕ → ℕ → ℕ → Type 0
+FitsKind t i k = getD (operandsFit t i) k ⊥
 
 abbrev pub Sound : List ℕ → Type 0
-Sound t = (i : ℕ) → i < count t → Fits t i
+Sound t = (i : ℕ) → i < count t → FitsKind t i (kindOf t i)

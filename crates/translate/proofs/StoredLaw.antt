@@ -8,7 +8,7 @@ use lib.Seq.{sets}
 use Rattle.table.specs.Node.{Node, node, numbersOf, _▸_, last}
 use Rattle.table.proofs.NodeLaw.{length-numbers, length-more}
 use Rattle.translate.specs.Emitted.{notN, andN, orN, gate}
-use Rattle.translate.specs.Stored.{Stored}
+use Rattle.translate.specs.Stored.{Stored, Walks}
 
 sets-append : {A : Type 0} (l : List A) (i : ℕ) (xs ys : List A) → sets l i (xs ++ ys) ≡ sets (sets l i xs) (i + length xs) ys
 sets-append l i [] ys = ap (λ (k : ℕ). sets l k ys) (omega arith)
@@ -20,35 +20,55 @@ numbers-more [] k l r = refl
 numbers-more (node k′ l′ r′ ∷ ns) k l r = ap (λ (xs : List ℕ). k′ ∷ l′ ∷ r′ ∷ xs) (numbers-more ns k l r)
 
 -- Three stores at node n, where n nodes are stored.
-pub store-node : {l : List ℕ} {ns : List Node} {n : ℕ} {now : List ℕ} (k x y : ℕ) → Stored l ns n now
-    → Stored l (ns ▸ node k x y) (n + 1) (set (set (set now (3 * n) k) (3 * n + 1) x) (3 * n + 2) y)
-store-node {l} {ns} {n} {now} k x y h =
-    let at : 0 + length (numbersOf ns) ≡ 3 * n = omega (arith, length-numbers ns, h .count) in
-    let e : sets l 0 (numbersOf (ns ▸ node k x y)) ≡ sets now (3 * n) (k ∷ x ∷ y ∷ []) =
-    ap (sets l 0) (numbers-more ns k x y) ∙ sets-append l 0 (numbersOf ns) (k ∷ x ∷ y ∷ [])
-    ∙ ap (λ (i : ℕ). sets (sets l 0 (numbersOf ns)) i (k ∷ x ∷ y ∷ [])) at
-    ∙ ap (λ (m : List ℕ). sets m (3 * n) (k ∷ x ∷ y ∷ [])) (sym (h .is)) in
-    let s : sets now (3 * n) (k ∷ x ∷ y ∷ []) ≡ set (set (set now (3 * n) k) (3 * n + 1) x) (3 * n + 2) y =
-    ap (λ (i : ℕ). set (set (set now (3 * n) k) i x) (suc (suc (3 * n))) y) (omega arith)
-    ∙ ap (λ (i : ℕ). set (set (set now (3 * n) k) (3 * n + 1) x) i y) (omega arith) in
-    record { count = omega (arith, length-more ns (node k x y), h .count); is = sym (e ∙ s) }
+pub walks-node : (k x y n : ℕ) (old : List ℕ)
+    → Walks 1 (λ ns. ns ▸ node k x y) n (n + 1) old (set (set (set old (3 * n) k) (3 * n + 1) x) (3 * n + 2) y)
+walks-node k x y n old = record { next = refl; stores = go }
+  where
+    go : (l : List ℕ) (ns : List Node) → Stored l ns n old → Stored l (ns ▸ node k x y) (n + 1) (set (set (set old (3 * n) k) (3 * n + 1) x) (3 * n + 2) y)
+    go l ns h =
+        let at : 0 + length (numbersOf ns) ≡ 3 * n = omega (arith, length-numbers ns, h .count) in
+        let e : sets l 0 (numbersOf (ns ▸ node k x y)) ≡ sets old (3 * n) (k ∷ x ∷ y ∷ []) =
+        ap (sets l 0) (numbers-more ns k x y) ∙ sets-append l 0 (numbersOf ns) (k ∷ x ∷ y ∷ [])
+        ∙ ap (λ (i : ℕ). sets (sets l 0 (numbersOf ns)) i (k ∷ x ∷ y ∷ [])) at
+        ∙ ap (λ (m : List ℕ). sets m (3 * n) (k ∷ x ∷ y ∷ [])) (sym (h .is)) in
+        let s : sets old (3 * n) (k ∷ x ∷ y ∷ []) ≡ set (set (set old (3 * n) k) (3 * n + 1) x) (3 * n + 2) y =
+        ap (λ (i : ℕ). set (set (set old (3 * n) k) i x) (suc (suc (3 * n))) y) (omega arith)
+        ∙ ap (λ (i : ℕ). set (set (set old (3 * n) k) (3 * n + 1) x) i y) (omega arith) in
+        record { count = omega (arith, length-more ns (node k x y), h .count); is = sym (e ∙ s) }
 
--- The last node's number is the one before the next.
-pub last-stored : {l : List ℕ} {ns : List Node} {n : ℕ} {now : List ℕ} → Stored l ns n now → last ns ≡ n - 1
-last-stored h = omega (arith, h .count)
+-- ── Walks one after the other: an operand is named by the number before the next ──
 
--- What a call that appends the node (k, x, y) to n nodes promises.
-abbrev pub Appends : ℕ → ℕ → ℕ → ℕ → List ℕ → ℕ → List ℕ → Type 0
-Appends k x y n old m now = (l : List ℕ) (ns : List Node) → Stored l ns n old → Stored l (ns ▸ node k x y) m now
+-- A walk, then one that goes on from the number of its last node.
+pub walks-then : {u w v n m p : ℕ} {f : List Node → List Node} (g : ℕ → List Node → List Node) {old mid now : List ℕ} → u ≡ w + v
+    → Walks w f n m old mid → Walks v (g (m - 1)) m p mid now → Walks u (λ ns. g (last (f ns)) (f ns)) n p old now
+walks-then {u} {w} {v} {n} {m} {p} {f} g {old} {mid} {now} z a b = record {
+  next = omega (arith, a .next, b .next);
+  stores = λ l ns h.
+      let u = a .stores l ns h in
+      let e : m - 1 ≡ last (f ns) = omega (arith, u .count) in
+      subst (λ (k : ℕ). Stored l (g k (f ns)) p now) e (b .stores l (f ns) u);
+}
 
-pub store-gate : {l : List ℕ} {ns : List Node} {n p q m x a r : ℕ} {old now₁ now₂ now₃ : List ℕ} → p ≡ n + 1
-    → Appends 2 r 0 n old p now₁ → Appends 3 x n p now₁ q now₂ → Appends 4 a p q now₂ m now₃
-    → Stored l ns n old → Stored l (gate x a r ns) m now₃
-store-gate {l} {ns} {n} {p} {q} {m} {x} {a} {r} {old} {now₁} {now₂} {now₃} e f g j h =
-    let ms = ns ▸ notN r in
-    let u = f l ns h in
-    let i : n ≡ last ms = omega (arith, last-stored u) in
-    let v = subst (λ (k : ℕ). Stored l (ms ▸ andN x k) q now₂) i (g l ms u) in
-    let ps = ms ▸ andN x (last ms) in
-    let k : p ≡ last ps = omega (arith, length-more ms (andN x (last ms)), u .count) in
-    subst (λ (k : ℕ). Stored l (ps ▸ orN a k) m now₃) k (j l ps v)
+-- Two walks, then one that goes on from the numbers of both last nodes.
+pub walks-both : {x w v u n m p q : ℕ} {f g : List Node → List Node} (h : ℕ → ℕ → List Node → List Node) {old mid mid′ now : List ℕ}
+    → x ≡ w + v + u → Walks w f n m old mid → Walks v g m p mid mid′ → Walks u (h (m - 1) (p - 1)) p q mid′ now
+    → Walks x (λ ns. h (last (f ns)) (last (g (f ns))) (g (f ns))) n q old now
+walks-both {x} {w} {v} {u} {n} {m} {p} {q} {f} {g} h {old} {mid} {mid′} {now} z a b c = record {
+  next = omega (arith, a .next, b .next, c .next);
+  stores = λ l ns s.
+      let i = a .stores l ns s in
+      let j = b .stores l (f ns) i in
+      let e : m - 1 ≡ last (f ns) = omega (arith, i .count) in
+      let d : p - 1 ≡ last (g (f ns)) = omega (arith, j .count) in
+      subst (λ (k : ℕ). Stored l (h (last (f ns)) k (g (f ns))) q now) d
+      (subst (λ (k : ℕ). Stored l (h k (p - 1) (g (f ns))) q now) e (c .stores l (g (f ns)) j));
+}
+
+pub walks-gate : {x a r n p q m : ℕ} {old mid mid′ now : List ℕ} → Walks 1 (λ ns. ns ▸ node 2 r 0) n p old mid
+    → Walks 1 (λ ns. ns ▸ node 3 x n) p q mid mid′ → Walks 1 (λ ns. ns ▸ node 4 a p) q m mid′ now → Walks 3 (gate x a r) n m old now
+walks-gate {x} {a} {r} {n} {p} {q} {m} {old} {mid} {mid′} {now} f g h =
+    let e : p - 1 ≡ n = omega (arith, f .next) in
+    let d : q - 1 ≡ p = omega (arith, g .next) in
+    walks-then {u = 3} (λ i ns. ns ▸ orN a i) refl
+    (walks-then {u = 2} (λ i ns. ns ▸ andN x i) refl f (subst (λ (i : ℕ). Walks 1 (λ ns. ns ▸ node 3 x i) p q mid mid′) (sym e) g))
+    (subst (λ (i : ℕ). Walks 1 (λ ns. ns ▸ node 4 a i) q m mid′ now) (sym d) h)

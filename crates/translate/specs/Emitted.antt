@@ -38,15 +38,19 @@ walkB (band b c) ns = let ms = walkB b ns in let ps = walkB c ms in ps ▸ andN 
 abbrev pub gate : ℕ → ℕ → ℕ → List Node → List Node
 gate x a r ns = let ms = ns ▸ notN r in let ps = ms ▸ andN x (last ms) in ps ▸ orN a (last ps)
 
+-- A Boolean under its gate.
+abbrev pub literal : BoolExpr → ℕ → ℕ → List Node → List Node
+literal b a r ns = let ms = walkB b ns in gate (last ms) a r ms
+
 -- A formula, with the numbers of accept a and reject r.
 unfoldable pub walk : Formula → ℕ → ℕ → List Node → List Node
-walk (weak b) a r ns = let ms = walkB b ns in gate (last ms) a r ms
-walk (strong b) a r ns = let ms = walkB b ns in gate (last ms) a r ms
+walk (weak b) a r ns = literal b a r ns
+walk (strong b) a r ns = literal b a r ns
 walk (fnot f) a r ns = let ms = walk f r a ns in ms ▸ notN (last ms)
 walk (fand f g) a r ns = let ms = walk f a r ns in let ps = walk g a r ms in ps ▸ andN (last ms) (last ps)
 walk (until f g) a r ns = let ms = walk f a r ns in let ps = walk g a r ms in ps ▸ untilN (last ms) (last ps)
 walk (next f) a r ns = let ms = walk f a r ns in let ps = ms ▸ nextN (last ms) in gate (last ps) a r ps
-walk (abort f b) a r ns = let ms = walkB b ns in let ps = gate (last ms) a r ms in walk f (last ps) r ps
+walk (abort f b) a r ns = let ms = literal b a r ns in walk f (last ms) r ms
 
 -- Node 0 is true, node 1 is not 0; then the walk, with a = 1 and r = 1.
 abbrev pub emittedNodes : Formula → List Node

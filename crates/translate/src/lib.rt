@@ -1,17 +1,20 @@
 // The translation from PSL tables to LTL tables.
 ghost use mathlib.Core.Path.{_≡_};
-ghost use mathlib.Core.List.{List};
-ghost use Prim.Native.Nat.{ℕ, _+_, _*_, _<_, _≤_};
-ghost use lib.ListN.{length};
-ghost use Rattle.table.specs.Node.{Node, node, _▸_};
-ghost use Rattle.translate.specs.Emitted.{gate as gateS};
-ghost use Rattle.translate.specs.Stored.{Stored};
+ghost use mathlib.Core.Bool.{cond};
+ghost use Prim.Native.Nat.{_+_, _<_, _≤_};
+ghost use lib.Dec.{eqb};
+ghost use Rattle.table.specs.Node.{node, _▸_, count, kindOf};
+ghost use Rattle.psl.specs.Formula.{weighB, weigh};
+ghost use Rattle.psl.specs.Parts.{booleanAt, formulaAt};
+ghost use Rattle.psl.specs.Sound.{Sound};
+ghost use Rattle.translate.specs.Emitted.{adds, walkB, walk as walkS, gate as gateS, literal as literalS};
+ghost use Rattle.translate.specs.Stored.{Room, Walks};
 use table::NodeNo;
 
 // A node behind those that are there; the number of the next one comes back.
 fn append(out: &mut [u16], n: NodeNo, kind: u16, left: u16, right: u16) -> NodeNo
-    requires { ⌜ (3 * (n .0 + 1) ≤ length (now out)) × (n .0 < 65535) ⌝ }
-    ensures { λ m. ⌜ (m .0 ≡ n .0 + 1) × ((l : List ℕ) (ns : List Node) → Stored l ns (n .0) (now (out .entry)) → Stored l (ns ▸ node kind left right) (m .0) (now (out .exit))) ⌝ }
+    requires { ⌜ Room 1 (n .0) (now out) ⌝ }
+    ensures { λ m. ⌜ Walks 1 (λ ns. ns ▸ node kind left right) (n .0) (m .0) (now (out .entry)) (now (out .exit)) ⌝ }
 {
     let at = 3 * (n.0 as usize);
     out[at] = kind;
@@ -22,10 +25,83 @@ fn append(out: &mut [u16], n: NodeNo, kind: u16, left: u16, right: u16) -> NodeN
 
 // Not r; and (x, that); or (a, that).
 fn gate(out: &mut [u16], n: NodeNo, x: NodeNo, a: NodeNo, r: NodeNo) -> NodeNo
-    requires { ⌜ (3 * (n .0 + 3) ≤ length (now out)) × (n .0 + 3 ≤ 65535) ⌝ }
-    ensures { λ m. ⌜ (m .0 ≡ n .0 + 3) × ((l : List ℕ) (ns : List Node) → Stored l ns (n .0) (now (out .entry)) → Stored l (gateS (x .0) (a .0) (r .0) ns) (m .0) (now (out .exit))) ⌝ }
+    requires { ⌜ Room 3 (n .0) (now out) ⌝ }
+    ensures { λ m. ⌜ Walks 3 (gateS (x .0) (a .0) (r .0)) (n .0) (m .0) (now (out .entry)) (now (out .exit)) ⌝ }
 {
     let p = append(out, n, 2, r.0, 0);
     let q = append(out, p, 3, x.0, n.0);
     append(out, q, 4, a.0, p.0)
+}
+
+// A Boolean: its operands, then one node.
+fn walk_boolean(t: &[u16], i: NodeNo, out: &mut [u16], n: NodeNo) -> NodeNo
+    requires { ⌜ Sound (now t) × (i .0 < count (now t)) × (kindOf (now t) (i .0) < 4) × Room (weighB adds (booleanAt (now t) (i .0))) (n .0) (now out) ⌝ }
+    ensures { λ m. ⌜ Walks (weighB adds (booleanAt (now (t .entry)) (i .0))) (walkB (booleanAt (now (t .entry)) (i .0))) (n .0) (m .0) (now (out .entry)) (now (out .exit)) ⌝ }
+{
+    let at = 3 * (i.0 as usize);
+    let kind = t[at];
+    let left = t[at + 1];
+    let right = t[at + 2];
+    if kind == 0 {
+        return append(out, n, 0, 0, 0);
+    }
+    if kind == 1 {
+        return append(out, n, 1, left, 0);
+    }
+    let m = walk_boolean(t, NodeNo(left), out, n);
+    if kind == 2 {
+        return append(out, m, 2, m.0 - 1, 0);
+    }
+    let p = walk_boolean(t, NodeNo(right), out, m);
+    append(out, p, 3, m.0 - 1, p.0 - 1)
+}
+
+// A Boolean under its gate: weak, strong, and an abort's condition.
+fn literal(t: &[u16], i: NodeNo, a: NodeNo, r: NodeNo, out: &mut [u16], n: NodeNo) -> NodeNo
+    requires { ⌜ Sound (now t) × (i .0 < count (now t)) × (kindOf (now t) (i .0) < 4) × Room (weighB adds (booleanAt (now t) (i .0)) + 3) (n .0) (now out) ⌝ }
+    ensures { λ m. ⌜ Walks (weighB adds (booleanAt (now (t .entry)) (i .0)) + 3) (literalS (booleanAt (now (t .entry)) (i .0)) (a .0) (r .0)) (n .0) (m .0) (now (out .entry)) (now (out .exit)) ⌝ }
+{
+    let m = walk_boolean(t, i, out, n);
+    gate(out, m, NodeNo(m.0 - 1), a, r)
+}
+
+// The LTL kind of an and or an until.
+fn joining(kind: u16) -> u16
+    ensures { λ k. ⌜ k ≡ cond (eqb kind 9) 6 3 ⌝ }
+{
+    if kind == 9 { 6 } else { 3 }
+}
+
+// A formula, with the numbers of accept a and reject r.
+fn walk(t: &[u16], i: NodeNo, a: NodeNo, r: NodeNo, out: &mut [u16], n: NodeNo) -> NodeNo
+    requires { ⌜ Sound (now t) × (i .0 < count (now t)) × (4 ≤ kindOf (now t) (i .0)) × Room (weigh adds (formulaAt (now t) (i .0))) (n .0) (now out) ⌝ }
+    ensures { λ m. ⌜ Walks (weigh adds (formulaAt (now (t .entry)) (i .0))) (walkS (formulaAt (now (t .entry)) (i .0)) (a .0) (r .0)) (n .0) (m .0) (now (out .entry)) (now (out .exit)) ⌝ }
+{
+    let at = 3 * (i.0 as usize);
+    let kind = t[at];
+    let left = NodeNo(t[at + 1]);
+    let right = NodeNo(t[at + 2]);
+    if kind < 6 {
+        return literal(t, left, a, r, out, n);
+    }
+    match kind {
+        6 => {
+            let m = walk(t, left, r, a, out, n);
+            append(out, m, 2, m.0 - 1, 0)
+        }
+        8 => {
+            let m = walk(t, left, a, r, out, n);
+            let p = append(out, m, 5, m.0 - 1, 0);
+            gate(out, p, m, a, r)
+        }
+        10 => {
+            let m = literal(t, right, a, r, out, n);
+            walk(t, left, NodeNo(m.0 - 1), r, out, m)
+        }
+        _ => {
+            let m = walk(t, left, a, r, out, n);
+            let p = walk(t, right, a, r, out, m);
+            append(out, p, joining(kind), m.0 - 1, p.0 - 1)
+        }
+    }
 }

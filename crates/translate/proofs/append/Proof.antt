@@ -1,7 +1,7 @@
 use borrow.Author.Needs.{needs}
 use native.Mathlib.Omega.{arith}
 use lib.ListN.{length-set}
-use Rattle.translate.proofs.StoredLaw.{store-node}
+use Rattle.translate.proofs.StoredLaw.{walks-node}
 use Rattle.translate.proofs.append.Statement.{statement}
 use Rattle.translate.proofs.append.Tie as tie
 use Rattle.translate.proofs.append.Reads as reads
@@ -57,7 +57,7 @@ same-length c = search needs
 
 -- src/lib.rt:11:1
 returns : tie.Need-returns
-returns c = (search needs, λ l ns h. store-node _ _ _ h)
+returns c = walks-node _ _ _ _ _
 
 pub append-spec : {M : Type 1} → statement M
 append-spec =

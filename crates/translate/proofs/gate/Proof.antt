@@ -1,5 +1,5 @@
 use borrow.Author.Needs.{needs}
-use Rattle.translate.proofs.StoredLaw.{store-gate}
+use Rattle.translate.proofs.StoredLaw.{walks-gate}
 use Rattle.translate.proofs.gate.Statement.{statement}
 use Rattle.translate.proofs.gate.Tie as tie
 use Rattle.translate.proofs.gate.Reads as reads
@@ -28,7 +28,7 @@ returns c =
     let a3 = c .before .before in
     let a2 = a3 .before .before .before .before in
     let a1 = a2 .before .before .before .before in
-    (search needs, λ l ns h. store-gate (a1 .append .ensures .0) (a1 .append .ensures .1) (a2 .append2 .ensures .1) (a3 .append3 .ensures .1) h)
+    walks-gate (a1 .append .ensures) (a2 .append2 .ensures) (a3 .append3 .ensures)
 
 pub gate-spec : {M : Type 1} → statement M
 gate-spec =

@@ -1,0 +1,249 @@
+-- The arms of the translator's walk: what each stores, by what its node stands for.
+use mathlib.Core.Path.{_≡_, refl, sym, ap, subst, _∙_}
+use mathlib.Core.List.{List}
+use Prim.Native.Nat.{ℕ, zero, suc, _+_, _-_, _≤_, _<_}
+use mathlib.Core.Bool.{cond}
+use native.Mathlib.Omega.{arith}
+use lib.Dec.{eqb}
+use native.Mathlib.Decide.{decLt}
+use Rattle.table.specs.Node.{Node, node, _▸_, count, kindOf, leftOf, rightOf}
+use Rattle.psl.specs.Formula.{BoolExpr, btrue, var, bnot, band, Formula, weak, strong, fnot, fand, next, until, abort, weighB, weigh}
+use Rattle.psl.specs.Parts.{booleanAt, formulaAt}
+use Rattle.psl.specs.Sound.{Boolean, Formula as IsFormula, Sound}
+use Rattle.psl.proofs.SoundLaw.{kind-known, is-bnot, is-band, is-weak, is-strong, is-and, is-until}
+use Rattle.translate.specs.Emitted.{notN, andN, nextN, untilN, adds, walkB, gate, literal, walk}
+use Rattle.translate.specs.Stored.{Walks}
+use Rattle.translate.proofs.StoredLaw.{walks-then, walks-both}
+
+-- One node (k, x, y) was stored.
+abbrev pub Node1 : ℕ → ℕ → ℕ → ℕ → ℕ → List ℕ → List ℕ → Type 0
+Node1 k x y n m old now = Walks 1 (λ ns. ns ▸ node k x y) n m old now
+
+abbrev pub WalksB : BoolExpr → ℕ → ℕ → List ℕ → List ℕ → Type 0
+WalksB b n m old now = Walks (weighB adds b) (walkB b) n m old now
+
+abbrev pub WalksF : Formula → ℕ → ℕ → ℕ → ℕ → List ℕ → List ℕ → Type 0
+WalksF f a r n m old now = Walks (weigh adds f) (walk f a r) n m old now
+
+-- ── Weights ──
+
+pub weight-true : {b : BoolExpr} → b ≡ btrue → weighB adds b ≡ 1
+unfolding weighB adds
+weight-true e = ap (weighB adds) e
+
+pub weight-var : {b : BoolExpr} {k : ℕ} → b ≡ var k → weighB adds b ≡ 1
+unfolding weighB adds
+weight-var e = ap (weighB adds) e
+
+pub weight-bnot : {b c : BoolExpr} → b ≡ bnot c → weighB adds b ≡ weighB adds c + 1
+unfolding weighB adds
+weight-bnot e = ap (weighB adds) e ∙ omega arith
+
+pub weight-band : {b c d : BoolExpr} → b ≡ band c d → weighB adds b ≡ weighB adds c + weighB adds d + 1
+unfolding weighB adds
+weight-band e = ap (weighB adds) e ∙ omega arith
+
+pub weight-weak : {f : Formula} {b : BoolExpr} → f ≡ weak b → weigh adds f ≡ weighB adds b + 3
+unfolding weigh adds
+weight-weak e = ap (weigh adds) e ∙ omega arith
+
+pub weight-strong : {f : Formula} {b : BoolExpr} → f ≡ strong b → weigh adds f ≡ weighB adds b + 3
+unfolding weigh adds
+weight-strong e = ap (weigh adds) e ∙ omega arith
+
+pub weight-not : {f g : Formula} → f ≡ fnot g → weigh adds f ≡ weigh adds g + 1
+unfolding weigh adds
+weight-not e = ap (weigh adds) e ∙ omega arith
+
+pub weight-and : {f g h : Formula} → f ≡ fand g h → weigh adds f ≡ weigh adds g + weigh adds h + 1
+unfolding weigh adds
+weight-and e = ap (weigh adds) e ∙ omega arith
+
+pub weight-until : {f g h : Formula} → f ≡ until g h → weigh adds f ≡ weigh adds g + weigh adds h + 1
+unfolding weigh adds
+weight-until e = ap (weigh adds) e ∙ omega arith
+
+pub weight-next : {f g : Formula} → f ≡ next g → weigh adds f ≡ weigh adds g + 4
+unfolding weigh adds
+weight-next e = ap (weigh adds) e ∙ omega arith
+
+pub weight-abort : {f g : Formula} {b : BoolExpr} → f ≡ abort g b → weigh adds f ≡ weighB adds b + 3 + weigh adds g
+unfolding weigh adds
+weight-abort e = ap (weigh adds) e ∙ omega arith
+
+pub weightB-pos : (b : BoolExpr) → 0 < weighB adds b
+unfolding weighB adds
+weightB-pos btrue = omega arith
+weightB-pos (var k) = omega arith
+weightB-pos (bnot b) = omega arith
+weightB-pos (band b c) = omega arith
+
+pub weight-pos : (f : Formula) → 0 < weigh adds f
+unfolding weigh adds
+weight-pos (weak b) = omega arith
+weight-pos (strong b) = omega arith
+weight-pos (fnot f) = omega arith
+weight-pos (fand f g) = omega arith
+weight-pos (next f) = omega arith
+weight-pos (until f g) = omega arith
+weight-pos (abort f b) = omega arith
+
+-- ── Booleans ──
+
+as-boolean : {b c : BoolExpr} {n m : ℕ} {old now : List ℕ} → b ≡ c → WalksB c n m old now → WalksB b n m old now
+as-boolean {b} {c} {n} {m} {old} {now} e w = subst (λ (d : BoolExpr). WalksB d n m old now) (sym e) w
+
+pub arm-true : {b : BoolExpr} {n m : ℕ} {old now : List ℕ} → b ≡ btrue → Node1 0 0 0 n m old now → WalksB b n m old now
+unfolding walkB weighB adds
+arm-true e w = as-boolean e w
+
+pub arm-var : {b : BoolExpr} {k n m : ℕ} {old now : List ℕ} → b ≡ var k → Node1 1 k 0 n m old now → WalksB b n m old now
+unfolding walkB weighB adds
+arm-var e w = as-boolean e w
+
+pub arm-bnot : {b c : BoolExpr} {n m p : ℕ} {old mid now : List ℕ} → b ≡ bnot c → WalksB c n m old mid → Node1 2 (m - 1) 0 m p mid now
+    → WalksB b n p old now
+unfolding walkB
+arm-bnot e w v = as-boolean e (walks-then (λ i ns. ns ▸ notN i) (weight-bnot refl) w v)
+
+pub arm-band : {b c d : BoolExpr} {n m p q : ℕ} {old mid mid′ now : List ℕ} → b ≡ band c d → WalksB c n m old mid → WalksB d m p mid mid′
+    → Node1 3 (m - 1) (p - 1) p q mid′ now → WalksB b n q old now
+unfolding walkB
+arm-band e w v u = as-boolean e (walks-both (λ i j ns. ns ▸ andN i j) (weight-band refl) w v u)
+
+-- A Boolean under its gate.
+pub arm-literal : (b : BoolExpr) (a r : ℕ) {n m p : ℕ} {old mid now : List ℕ} → WalksB b n m old mid → Walks 3 (gate (m - 1) a r) m p mid now
+    → Walks (weighB adds b + 3) (literal b a r) n p old now
+arm-literal b a r w v = walks-then (λ i. gate i a r) refl w v
+
+pub is-three : (k : ℕ) → (k ≡ 0 → ⊥) → (k ≡ 1 → ⊥) → (k ≡ 2 → ⊥) → k < 4 → k ≡ 3
+is-three zero n0 n1 n2 h = absurd (n0 refl)
+is-three (suc zero) n0 n1 n2 h = absurd (n1 refl)
+is-three (suc (suc zero)) n0 n1 n2 h = absurd (n2 refl)
+is-three (suc (suc (suc k))) n0 n1 n2 h = omega arith
+
+is-two : (k : ℕ) → (k ≡ 0 → ⊥) → (k ≡ 1 → ⊥) → k < 3 → k ≡ 2
+is-two zero n0 n1 h = absurd (n0 refl)
+is-two (suc zero) n0 n1 h = absurd (n1 refl)
+is-two (suc (suc k)) n0 n1 h = omega arith
+
+-- The left operand of a bnot or a band, and that its nodes are fewer.
+pub left-boolean : (t : List ℕ) → Sound t → (i : ℕ) → i < count t → (kindOf t i ≡ 0 → ⊥) → (kindOf t i ≡ 1 → ⊥) → kindOf t i < 4
+    → Boolean t i (leftOf t i) × (weighB adds (booleanAt t (leftOf t i)) + 1 ≤ weighB adds (booleanAt t i))
+left-boolean t s i h n0 n1 u = go (decLt (kindOf t i) 3)
+  where
+    go : Dec (kindOf t i < 3) → Boolean t i (leftOf t i) × (weighB adds (booleanAt t (leftOf t i)) + 1 ≤ weighB adds (booleanAt t i))
+    go (yes d) = let b = is-bnot t s i h (is-two (kindOf t i) n0 n1 d) in (b .0, omega (arith, weight-bnot (b .1)))
+    go (no d) = let b = is-band t s i h (omega arith) in (b .0, omega (arith, weight-band (b .2), weightB-pos (booleanAt t (rightOf t i))))
+
+-- ── Formulas ──
+
+as-formula : (a r : ℕ) {f g : Formula} {n m : ℕ} {old now : List ℕ} → f ≡ g → WalksF g a r n m old now → WalksF f a r n m old now
+as-formula a r {f} {g} {n} {m} {old} {now} e w = subst (λ (h : Formula). WalksF h a r n m old now) (sym e) w
+
+weighs : {w v n m : ℕ} {f : List Node → List Node} {old now : List ℕ} → w ≡ v → Walks v f n m old now → Walks w f n m old now
+weighs {w} {v} {n} {m} {f} {old} {now} e h = subst (λ (u : ℕ). Walks u f n m old now) (sym e) h
+
+pub arm-weak : (a r : ℕ) {f : Formula} {b : BoolExpr} {n m : ℕ} {old now : List ℕ} → f ≡ weak b → Walks (weighB adds b + 3) (literal b a r) n m old now
+    → WalksF f a r n m old now
+unfolding walk
+arm-weak a r e w = as-formula a r e (weighs (weight-weak refl) w)
+
+pub arm-strong : (a r : ℕ) {f : Formula} {b : BoolExpr} {n m : ℕ} {old now : List ℕ} → f ≡ strong b
+    → Walks (weighB adds b + 3) (literal b a r) n m old now → WalksF f a r n m old now
+unfolding walk
+arm-strong a r e w = as-formula a r e (weighs (weight-strong refl) w)
+
+pub arm-not : (a r : ℕ) {f g : Formula} {n m p : ℕ} {old mid now : List ℕ} → f ≡ fnot g → WalksF g r a n m old mid → Node1 2 (m - 1) 0 m p mid now
+    → WalksF f a r n p old now
+unfolding walk
+arm-not a r e w v = as-formula a r e (walks-then (λ i ns. ns ▸ notN i) (weight-not refl) w v)
+
+pub arm-and : (a r : ℕ) {f g h : Formula} {n m p q : ℕ} {old mid mid′ now : List ℕ} → f ≡ fand g h → WalksF g a r n m old mid
+    → WalksF h a r m p mid mid′ → Node1 3 (m - 1) (p - 1) p q mid′ now → WalksF f a r n q old now
+unfolding walk
+arm-and a r e w v u = as-formula a r e (walks-both (λ i j ns. ns ▸ andN i j) (weight-and refl) w v u)
+
+pub arm-until : (a r : ℕ) {f g h : Formula} {n m p q : ℕ} {old mid mid′ now : List ℕ} → f ≡ until g h → WalksF g a r n m old mid
+    → WalksF h a r m p mid mid′ → Node1 6 (m - 1) (p - 1) p q mid′ now → WalksF f a r n q old now
+unfolding walk
+arm-until a r e w v u = as-formula a r e (walks-both (λ i j ns. ns ▸ untilN i j) (weight-until refl) w v u)
+
+pub arm-next : (a r : ℕ) {f g : Formula} {n m p q : ℕ} {old mid mid′ now : List ℕ} → f ≡ next g → WalksF g a r n m old mid
+    → Node1 5 (m - 1) 0 m p mid mid′ → Walks 3 (gate m a r) p q mid′ now → WalksF f a r n q old now
+unfolding walk
+arm-next a r {f} {g} {n} {m} {p} {q} {old} {mid} {mid′} {now} e w v u =
+    let d : m ≡ p - 1 = omega (arith, v .next) in
+    let x : Walks 3 (gate (p - 1) a r) p q mid′ now = subst (λ (i : ℕ). Walks 3 (gate i a r) p q mid′ now) d u in
+    as-formula a r e
+    (weighs (weight-next refl ∙ omega arith) (walks-then (λ i. gate i a r) refl (walks-then (λ i ns. ns ▸ nextN i) refl w v) x))
+
+pub arm-abort : (a r : ℕ) {f g : Formula} {b : BoolExpr} {n m p : ℕ} {old mid now : List ℕ} → f ≡ abort g b
+    → Walks (weighB adds b + 3) (literal b a r) n m old mid → WalksF g (m - 1) r m p mid now → WalksF f a r n p old now
+unfolding walk
+arm-abort a r {f} {g} e w v = as-formula a r e (walks-then (λ i. walk g i r) (weight-abort refl) w v)
+
+not-six : (k : ℕ) → 6 ≤ k → (k ≡ 6 → ⊥) → k < 8 → k ≡ 7
+not-six k lo n hi = elim (decLt 6 k) [ yes d ↦ omega arith | no d ↦ absurd (n (omega arith)) ]
+
+not-eight : (k : ℕ) → 8 ≤ k → (k ≡ 8 → ⊥) → (k ≡ 10 → ⊥) → k < 11 → k ≡ 9
+not-eight k lo n m hi =
+    elim (decLt 8 k) [
+      | yes d ↦ elim (decLt k 10) [ yes c ↦ omega arith | no c ↦ absurd (m (omega arith)) ]
+      | no d ↦ absurd (n (omega arith))
+    ]
+
+-- A weak or a strong node.
+pub record Literal (t : List ℕ) (i : ℕ) : Type 0 where
+  pub operand : Boolean t i (leftOf t i)
+  pub weight : weigh adds (formulaAt t i) ≡ weighB adds (booleanAt t (leftOf t i)) + 3
+  pub arm : (a r : ℕ) {n m : ℕ} {old now : List ℕ} → Walks (weighB adds (booleanAt t (leftOf t i)) + 3) (literal (booleanAt t (leftOf t i)) a r) n m old now
+      → WalksF (formulaAt t i) a r n m old now
+
+pub literal-node : (t : List ℕ) → Sound t → (i : ℕ) → i < count t → 4 ≤ kindOf t i → kindOf t i < 6 → Literal t i
+literal-node t s i h lo hi = go (decLt (kindOf t i) 5)
+  where
+    go : Dec (kindOf t i < 5) → Literal t i
+    go (yes d) =
+        let b = is-weak t s i h (omega arith) in
+        record { operand = b .0; weight = weight-weak (b .1); arm = λ a r w. arm-weak a r (b .1) w }
+    go (no d) =
+        let b = is-strong t s i h (omega arith) in
+        record { operand = b .0; weight = weight-strong (b .1); arm = λ a r w. arm-strong a r (b .1) w }
+
+-- An and or an until node.
+pub record Joined (t : List ℕ) (i : ℕ) : Type 0 where
+  pub left : IsFormula t i (leftOf t i)
+  pub right : IsFormula t i (rightOf t i)
+  pub weight : weigh adds (formulaAt t i) ≡ weigh adds (formulaAt t (leftOf t i)) + weigh adds (formulaAt t (rightOf t i)) + 1
+  pub arm : (a r : ℕ) {n m p q k : ℕ} {old mid mid′ now : List ℕ} → k ≡ cond (eqb (kindOf t i) 9) 6 3 → WalksF (formulaAt t (leftOf t i)) a r n m old mid
+      → WalksF (formulaAt t (rightOf t i)) a r m p mid mid′ → Node1 k (m - 1) (p - 1) p q mid′ now → WalksF (formulaAt t i) a r n q old now
+
+pub joined-node : (t : List ℕ) → Sound t → (i : ℕ) → i < count t → 6 ≤ kindOf t i → (kindOf t i ≡ 6 → ⊥) → (kindOf t i ≡ 8 → ⊥)
+    → (kindOf t i ≡ 10 → ⊥) → Joined t i
+joined-node t s i h lo n6 n8 n10 = go (decLt (kindOf t i) 8)
+  where
+    known : kindOf t i < 11
+    known = kind-known t s i h
+
+    go : Dec (kindOf t i < 8) → Joined t i
+    go (yes d) =
+        let e : kindOf t i ≡ 7 = not-six (kindOf t i) lo n6 d in
+        let f = is-and t s i h e in
+        record {
+          left = f .0;
+          right = f .1;
+          weight = weight-and (f .2);
+          arm = λ a r {n} {m} {p} {q} {k} {old} {mid} {mid′} {now} z w v u.
+              arm-and a r (f .2) w v (subst (λ (j : ℕ). Node1 j (m - 1) (p - 1) p q mid′ now) (z ∙ ap (λ (j : ℕ). cond (eqb j 9) 6 3) e) u);
+        }
+    go (no d) =
+        let e : kindOf t i ≡ 9 = not-eight (kindOf t i) (omega arith) n8 n10 known in
+        let f = is-until t s i h e in
+        record {
+          left = f .0;
+          right = f .1;
+          weight = weight-until (f .2);
+          arm = λ a r {n} {m} {p} {q} {k} {old} {mid} {mid′} {now} z w v u.
+              arm-until a r (f .2) w v (subst (λ (j : ℕ). Node1 j (m - 1) (p - 1) p q mid′ now) (z ∙ ap (λ (j : ℕ). cond (eqb j 9) 6 3) e) u);
+        }
