@@ -2,13 +2,13 @@
 use mathlib.Core.Path.{_≡_, refl, sym, ap, ap₂, _∙_}
 use mathlib.Core.Bool.{Bool, true, false, not, _&&_, _||_, and-true, and-false, or-true, or-false}
 use Prim.Native.Nat.{ℕ, zero, suc, _+_, _-_, _*_, _/_, _%_, _^_, _≤_, _<_}
-use native.Mathlib.Nat.{mod-lt, zero-lt-suc, add-comm, zero-div, div-one, div-eq-of-lt, lt-of-lt-of-le, pow-succ'}
+use native.Mathlib.Nat.{mod-lt, zero-lt-suc, add-zero, add-comm, zero-div, div-one, div-eq-of-lt, lt-of-lt-of-le, pow-succ'}
 use native.Mathlib.Numerals.{one-add}
 use native.Mathlib.Omega.{arith}
 use native.Mathlib.Decide.{decLt}
 use lib.Dec.{eqb, ltb, lit<}
 use lib.Pow.{pow-pos, pow-mono, shr-shr, shl-shr, field, mod-mod-pow, ones-lt}
-use lib.Bits.{bitAnd, bitOr, and-shr, or-shr, and-mod, or-mod, shifted-half, shifted-even}
+use lib.Bits.{bitAnd, bitOr, and-shr, or-shr, and-mod, or-mod, and-mask, shifted-half, shifted-even}
 use borrow.Author.Tests.{eq-eqb, ne-eqb, lt-ltb, le-ltb}
 use Rattle.trace.specs.Letter.{bit}
 
@@ -119,6 +119,18 @@ bit-shl a v w k l =
 
 pub bit-half : (a k : ℕ) → bit (a / 2 ^ 1) k ≡ bit a (k + 1)
 bit-half a k = bit-shr a 1 k ∙ ap (bit a) (add-comm 1 k)
+
+pub test-first : (n : ℕ) → eqb (bitAnd n 1) 1 ≡ bit n 0
+test-first n = ap (λ (x : ℕ). eqb x 1) (and-mask n 1) ∙ sym (bit-first n)
+
+pub bit-brought : (a k : ℕ) → bit (a / 2 ^ k) 0 ≡ bit a k
+bit-brought a k = bit-shr a k 0 ∙ ap (bit a) (add-zero k)
+
+-- One bit, brought to the lowest place.
+pub bit-lowest : (a k : ℕ) → bit (bitAnd (a / 2 ^ k) 1) 0 ≡ bit a k
+bit-lowest a k =
+    bit-and (a / 2 ^ k) 1 0 ∙ ap (bit (a / 2 ^ k) 0 &&_) (bit-ones 1 0 (omega arith)) ∙ and-true (bit (a / 2 ^ k) 0)
+    ∙ bit-brought a k
 
 -- ── Masks of the first n bits ──
 

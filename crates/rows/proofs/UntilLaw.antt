@@ -3,7 +3,7 @@ use mathlib.Core.Path.{_≡_, refl, sym, ap, ap₂, subst, _∙_}
 use mathlib.Core.Bool.{Bool, true, false, _&&_, _||_}
 use mathlib.Core.Logic.{_⊎_, inl, inr, _↔_}
 use mathlib.Core.List.{List}
-use Prim.Native.Nat.{ℕ, zero, suc, _+_, _-_, _^_, _≤_, _<_}
+use Prim.Native.Nat.{ℕ, zero, suc, _+_, _-_, _/_, _^_, _≤_, _<_}
 use native.Mathlib.Omega.{arith}
 use native.Mathlib.Decide.{decLt}
 use lib.Dec.{T, eqb, ltb}
@@ -16,7 +16,7 @@ use Rattle.trace.proofs.MomentsLaw.{gapless, inside-before}
 use Rattle.ltl.specs.Tree.{Ltl, luntil}
 use Rattle.ltl.specs.Meaning.{LtlHolds}
 use Rattle.rows.specs.Rows.{place, Tells, Few, follows, Swept}
-use Rattle.rows.proofs.BitLaw.{kept, cleared, kept-by-or, filled}
+use Rattle.rows.proofs.BitLaw.{bit-zero, bit-brought, kept, cleared, kept-by-or, filled}
 use Rattle.rows.proofs.PlaceLaw.{place-lt, place-start, in-loop, Next, on, round, end, next}
 
 -- ── A step: the second operand, or the first and what follows ──
@@ -70,6 +70,9 @@ module _ (keep n f g carry r : ℕ) (mask : (m : ℕ) → bit keep m ≡ ltb m n
           let l : m < mostLetters = omega arith in
           swept m l
           ∙ ap₂ (λ (b a : Bool). b || a && follows r carry (m + 1)) (kept keep n mask g m h) (kept-by-or keep n mask f m mostLetters fits l h)
+
+nothing : T (bit 0 0) → ⊥
+nothing h = subst T (bit-zero 0) h
 
 -- ── Until by one moment ──
 
@@ -188,19 +191,24 @@ module _ (lead loop : List ℕ) (f g : ℕ) where
           }
 
     -- On a finite trace one sweep from no.
-    pub tells-until-once : (r : ℕ) → p ≡ n → Sweep n f g false r → Tells lead loop r (luntil x y)
-    tells-until-once r q R = tells false r R (λ e h. h) (λ i k e h. absurd h) (λ l h. absurd (omega arith))
+    pub tells-until-once : (r : ℕ) → n ≤ p → Sweep n f g (bit 0 0) r → Tells lead loop r (luntil x y)
+    tells-until-once r q R = tells (bit 0 0) r R (λ e h. nothing h) (λ i k e h. absurd (nothing h)) (λ l h. absurd (omega arith))
 
     -- On a loop a second sweep, from what the first says of the loop's start.
-    pub tells-until-twice : (once r : ℕ) → p < n → Sweep n f g false once → Sweep n f g (bit once p) r → Tells lead loop r (luntil x y)
+    pub tells-until-twice : (once r : ℕ) → p < n → Sweep n f g (bit 0 0) once → Sweep n f g (bit (once / 2 ^ p) 0) r → Tells lead loop r (luntil x y)
     tells-until-twice once r q O R =
-        tells (bit once p) r R (λ e h. absurd (omega arith))
-        (λ i k e h. sound false once O (λ e h. h) (λ i k e h. absurd h) i k (rw e h))
+        tells (bit once p) r R′ (λ e h. absurd (omega arith))
+        (λ i k e h. sound (bit 0 0) once O (λ e h. nothing h) (λ i k e h. absurd (nothing h)) i k (rw e h))
         back
       where
-        later : (i : ℕ) → InTrace t i → T (bit f (at i)) → (N : Next lead loop i)
-            → Then (bit once p) r R (λ i. T (bit once (at i)) ⊎ T (bit once p)) N → T (bit once (at i)) ⊎ T (bit once p)
-        later i k a (on l k′ e) (inl h) = inl (says-later false once O (on l k′ e) a h)
+        R′ : Sweep n f g (bit once p) r
+        R′ = subst (λ (c : Bool). Sweep n f g c r) (bit-brought once p) R
+
+        P : ℕ → Type 0
+        P i = T (bit once (at i)) ⊎ T (bit once p)
+
+        later : (i : ℕ) → InTrace t i → T (bit f (at i)) → (N : Next lead loop i) → Then (bit once p) r R′ P N → P i
+        later i k a (on l k′ e) (inl h) = inl (says-later (bit 0 0) once O (on l k′ e) a h)
         later i k a (on l k′ e) (inr h) = inr h
         later i k a (round l q k′ e) h = inr h
         later i k a (end l q k′) h = inr h
@@ -208,7 +216,7 @@ module _ (lead loop : List ℕ) (f g : ℕ) where
         back : p < n → T (bit r p) → T (bit once p)
         back l h =
             let s = place-start lead loop p refl in
-            elim (least (bit once p) r R (λ i. T (bit once (at i)) ⊎ T (bit once p)) (λ i k b. inl (says-now false once O (next lead loop i k) b)) later
+            elim (least (bit once p) r R′ P (λ i k b. inl (says-now (bit 0 0) once O (next lead loop i k) b)) later
             n p (omega arith) (in-loop lead loop p (omega arith) (omega arith)) (subst (λ (m : ℕ). T (bit r m)) (sym s) h)) [
               | inl o ↦ subst (λ (m : ℕ). T (bit once m)) s o
               | inr o ↦ o
