@@ -1,21 +1,21 @@
 -- What each operation on rows tells, but until.
-use mathlib.Core.Path.{_≡_, refl, sym, ap, ap₂, subst, _∙_}
+use mathlib.Core.Path.{_≡_, ap, ap₂, subst, _∙_}
 use mathlib.Core.Bool.{Bool, true, false, not, _&&_, _||_, or-false}
 use mathlib.Core.Logic.{_⊎_, inl, inr, _↔_}
-use mathlib.Core.List.{List, _∷_, _++_}
-use Prim.Native.Nat.{ℕ, zero, suc, _+_, _-_, _*_, _/_, _%_, _^_, _≤_, _<_}
-use native.Mathlib.Numerals.{one-add}
+use mathlib.Core.List.{List, _++_}
+use Prim.Native.Nat.{ℕ, suc, _+_, _-_, _*_, _/_, _%_, _^_, _≤_, _<_}
 use native.Mathlib.Omega.{arith}
 use lib.Dec.{T, ltb}
-use lib.Bits.{bitAnd, bitOr, mask-lt}
-use lib.ListN.{length, getD, length-append}
+use lib.Bits.{bitAnd, bitOr}
+use lib.Pow.{ones-lt}
+use lib.ListN.{length, length-append}
 use Rattle.trace.specs.Letter.{bit, mostLetters}
 use Rattle.trace.specs.Moments.{letterAt, size, InTrace}
 use Rattle.trace.proofs.MomentsLaw.{starts}
 use Rattle.ltl.specs.Tree.{Ltl, ltrue, lvar, lnot, land, lor, lnext}
 use Rattle.ltl.specs.Meaning.{LtlHolds, LtlHoldsOn}
 use Rattle.rows.specs.Rows.{place, Tells, Few, SignalIn}
-use Rattle.rows.proofs.BitLaw.{bit-not, bit-ones, bit-and, bit-or, bit-past, bit-lowest, bit-shl, bit-shl-low, bit-half, kept, cleared}
+use Rattle.rows.proofs.BitLaw.{bit-not, bit-ones, bit-and, bit-or, bit-lowest, bit-shl, bit-shl-low, bit-half, kept, cleared}
 use Rattle.rows.proofs.PlaceLaw.{place-lt, place-letter, place-first, Next, on, round, end, next}
 
 -- ── Tests ──
@@ -24,11 +24,11 @@ T-not : {A : Type 0} (b : Bool) → A ↔ T b → (A → ⊥) ↔ T (not b)
 T-not true e = (λ h. h (e .1 tt), λ h. absurd h)
 T-not false e = (λ h. tt, λ h. e .0)
 
-T-and : {A B : Type 0} (a b : Bool) → A ↔ T a → B ↔ T b → (A × B) ↔ T (a && b)
+pub T-and : {A B : Type 0} (a b : Bool) → A ↔ T a → B ↔ T b → (A × B) ↔ T (a && b)
 T-and true b e d = (λ h. d .0 (h .1), λ h. (e .1 tt, d .1 h))
 T-and false b e d = (λ h. e .0 (h .0), λ h. absurd h)
 
-T-or : {A B : Type 0} (a b : Bool) → A ↔ T a → B ↔ T b → (A ⊎ B) ↔ T (a || b)
+pub T-or : {A B : Type 0} (a b : Bool) → A ↔ T a → B ↔ T b → (A ⊎ B) ↔ T (a || b)
 T-or true b e d = (λ h. tt, λ h. inl (e .1 tt))
 T-or false b e d = (λ h. elim h [ inl a ↦ absurd (e .0 a) | inr c ↦ d .0 c ], λ h. inr (d .1 h))
 
@@ -46,6 +46,9 @@ module _ {lead loop : List ℕ} (few : Few lead loop) where
       record {
         at = λ i k. rw (bit-not mostLetters (place lead loop i) a h (in-row i k)) (T-not (bit a (place lead loop i)) (A .at i k));
       }
+
+  pub tells-false : Tells lead loop 0 (lnot ltrue)
+  tells-false = tells-not (ones-lt mostLetters) tells-true
 
   module _ {a b : ℕ} {x y : Ltl} (A : Tells lead loop a x) (B : Tells lead loop b y) where
     pub tells-and : Tells lead loop (bitAnd a b) (land x y)

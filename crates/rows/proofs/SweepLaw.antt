@@ -8,7 +8,7 @@ use native.Mathlib.Decide.{decLt}
 use lib.Bits.{bitAnd, bitOr, or-lt, and-le-l}
 use borrow.Author.Tests.{eq-eqb, ne-eqb}
 use Rattle.trace.specs.Letter.{bit, mostLetters}
-use Rattle.rows.specs.Rows.{follows, Swept}
+use Rattle.rows.specs.Rows.{Swept}
 use Rattle.rows.proofs.BitLaw.{bit-and, bit-or, bit-shr, bit-past, bit-shl, bit-shl-low}
 
 -- A step into a step.
@@ -72,29 +72,35 @@ module _ (f g : ℕ) where
       sym (S .is m ∙ ap (λ (u : Bool). bit b m || bit a m && u) (rest-past (m + s) (omega arith)) ∙ ap (bit b m ||_) (and-false (bit a m))
       ∙ or-false (bit b m))
 
--- The carry joins at the last moment.
+-- The carry, brought to the last moment, joins there.
+abbrev pub last : ℕ
+last = mostLetters - 1
+
 module _ (f g carry : ℕ) where
+  abbrev pub brought : ℕ
+  brought = carry * 2 ^ last % 2 ^ mostLetters
+
   abbrev pub joined : ℕ
-  joined = bitOr g (bitAnd f (carry * 2 ^ 63 % 2 ^ 64))
+  joined = bitOr g (bitAnd f brought)
 
   pub joined-fits : f < 2 ^ mostLetters → g < 2 ^ mostLetters → joined < 2 ^ mostLetters
-  joined-fits h l = or-lt mostLetters g _ l (lt-of-le-of-lt (and-le-l f (carry * 2 ^ 63 % 2 ^ 64)) h)
+  joined-fits h l = or-lt mostLetters g _ l (lt-of-le-of-lt (and-le-l f brought) h)
 
-  joined-bit : (m : ℕ) (c : Bool) → bit (carry * 2 ^ 63 % 2 ^ 64) m ≡ c → bit joined m ≡ bit g m || bit f m && c
+  joined-bit : (m : ℕ) (c : Bool) → bit brought m ≡ c → bit joined m ≡ bit g m || bit f m && c
   joined-bit m c e = bit-or g _ m ∙ ap (bit g m ||_) (bit-and f _ m ∙ ap (bit f m &&_) e)
 
   pub swept : (r : ℕ) → ((m : ℕ) → bit r m ≡ rest f joined m) → Swept f g carry r
   swept r R m h =
       R m ∙ rest-step f joined m h
-      ∙ elim (decLt m 63) [
+      ∙ elim (decLt m last) [
         | yes l ↦
             rw (ne-eqb (m + 1) mostLetters (omega arith), R (m + 1))
             (ap (_|| (bit f m && rest f joined (m + 1)))
-            (joined-bit m false (bit-shl-low carry 63 64 m l h) ∙ ap (bit g m ||_) (and-false (bit f m)) ∙ or-false (bit g m)))
+            (joined-bit m false (bit-shl-low carry last mostLetters m l h) ∙ ap (bit g m ||_) (and-false (bit f m)) ∙ or-false (bit g m)))
         | no l ↦
-            let e : m ≡ 63 + 0 = omega arith in
+            let e : m ≡ last + 0 = omega arith in
             rw (eq-eqb (m + 1) mostLetters (omega arith))
-            (ap₂ _||_ (joined-bit m (bit carry 0) (ap (bit (carry * 2 ^ 63 % 2 ^ 64)) e ∙ bit-shl carry 63 64 0 (omega arith)))
+            (ap₂ _||_ (joined-bit m (bit carry 0) (ap (bit brought) e ∙ bit-shl carry last mostLetters 0 (omega arith)))
             (ap (bit f m &&_) (rest-past f joined (m + 1) (omega arith)) ∙ and-false (bit f m))
             ∙ or-false (bit g m || bit f m && bit carry 0))
       ]

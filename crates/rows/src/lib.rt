@@ -117,14 +117,15 @@ pub fn node_row(k: u16, l: u16, a: Row, b: Row, lead: &[Letter], cycle: &[Letter
         → (2 ≤ k → Tells (now (lead .entry)) (now (cycle .entry)) a (x l)) → (2 ≤ k → Tells (now (lead .entry)) (now (cycle .entry)) b (x r))
         → Tells (now (lead .entry)) (now (cycle .entry)) w (treeOfNode x (node k l r))) ⌝ }
 {
-    let len = lead.len() + cycle.len();
+    let start = lead.len();
+    let len = start + cycle.len();
     match k {
         1 => signal_row(lead, cycle, l),
         2 => !a,
         3 => a & b,
         4 => a | b,
-        5 => next_row(a, lead.len(), len),
-        6 => until_row(a, b, lead.len(), len),
+        5 => next_row(a, start, len),
+        6 => until_row(a, b, start, len),
         _ => ALWAYS,
     }
 }

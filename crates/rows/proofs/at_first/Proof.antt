@@ -1,5 +1,4 @@
 -- The lowest bit stands for moment 0.
-use mathlib.Core.Logic.{_↔_}
 use Rattle.rows.proofs.BitLaw.{test-first}
 use Rattle.rows.proofs.RowLaw.{tells-first}
 use Rattle.rows.proofs.at_first.Statement.{statement}

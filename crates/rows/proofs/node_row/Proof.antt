@@ -1,3 +1,4 @@
+-- Kind by kind, each by its law or its function's contract.
 use borrow.Author.Needs.{needs}
 use mathlib.Core.Path.{_≡_, refl}
 use Prim.Native.Nat.{ℕ, zero, suc, _<_}
@@ -8,11 +9,6 @@ use Rattle.ltl.specs.Table.{treeOfNode}
 use Rattle.rows.proofs.RowLaw.{tells-true, tells-not, tells-and, tells-or}
 use Rattle.rows.proofs.node_row.Statement.{statement}
 use Rattle.rows.proofs.node_row.Tie as tie
-use Rattle.rows.proofs.node_row.Reads as reads
-use Rattle.rows.proofs.node_row.Lts as lts
-use Rattle.rows.proofs.next_row.Reads as next-row-reads
-use Rattle.rows.proofs.signal_row.Reads as signal-row-reads
-use Rattle.rows.proofs.until_row.Reads as until-row-reads
 
 -- Kind 0, and what is no kind, stands for true.
 no-kind : (x : ℕ → Ltl) (k l r : ℕ) → (0 < k → 6 < k) → treeOfNode x (node k l r) ≡ ltrue
@@ -26,67 +22,54 @@ no-kind x (suc (suc (suc (suc (suc zero))))) l r h = absurd (omega (arith, h (om
 no-kind x (suc (suc (suc (suc (suc (suc zero)))))) l r h = absurd (omega (arith, h (omega arith)))
 no-kind x (suc (suc (suc (suc (suc (suc (suc k))))))) l r h = refl
 
--- src/lib.rt:120:15
 add-len : tie.Need-add-len
 add-len c = search needs
 
--- src/lib.rt:122:14
 signal-row-requires : tie.Need-signal-row-requires
 signal-row-requires c κs =
     let st = c .before .before .before in
     (st .pre .0, st .pre .1 (c .match .keys1))
 
--- src/lib.rt:126:14
 next-row-requires : tie.Need-next-row-requires
 next-row-requires c κs = search needs
 
--- src/lib.rt:127:14
 until-row-requires : tie.Need-until-row-requires
 until-row-requires c κs = search needs
 
--- src/lib.rt:114:1
 returns : tie.Need-returns
 unfolding treeOfNode
-returns c x r A B =
-    let st = c .before .before .before .before in
-    rw (c .before .match .keys1) (c .signal-row .ensures)
+returns c x r A B = rw (c .before .match .keys1) (c .signal-row .ensures)
 
--- src/lib.rt:114:1
 returns-2 : tie.Need-returns-2
 unfolding treeOfNode
 returns-2 c x r A B =
     let st = c .before .before .before in
     rw (c .match .keys2) (tells-not (st .pre .0) (st .fits .a .fits) (A (omega arith)))
 
--- src/lib.rt:114:1
 returns-3 : tie.Need-returns-3
 unfolding treeOfNode
 returns-3 c x r A B =
     let st = c .before .before .before in
     rw (c .match .keys3) (tells-and (st .pre .0) (A (omega arith)) (B (omega arith)))
 
--- src/lib.rt:114:1
 returns-4 : tie.Need-returns-4
 unfolding treeOfNode
 returns-4 c x r A B =
     let st = c .before .before .before in
     rw (c .match .keys4) (tells-or (st .pre .0) (A (omega arith)) (B (omega arith)))
 
--- src/lib.rt:114:1
 returns-5 : tie.Need-returns-5
 unfolding treeOfNode
 returns-5 c x r A B =
     let st = c .before .before .before .before in
     rw (c .before .match .keys5) (c .next-row .ensures (st .args .lead .now) (st .args .cycle .now) (x (st .args .l)) refl refl (A (omega arith)))
 
--- src/lib.rt:114:1
 returns-6 : tie.Need-returns-6
 unfolding treeOfNode
 returns-6 c x r A B =
     let st = c .before .before .before .before in
     rw (c .before .match .keys6) (c .until-row .ensures (st .args .lead .now) (st .args .cycle .now) (x (st .args .l)) (x r) refl refl (A (omega arith)) (B (omega arith)))
 
--- src/lib.rt:114:1
 returns-7 : tie.Need-returns-7
 returns-7 c x r A B =
     let st = c .before .before .before in

@@ -1,7 +1,7 @@
 -- The loop goes from the last letter to the first: the row has the signal at the letters from i on and at those that come after them.
-use mathlib.Core.Path.{_≡_, sym, ap, subst, _∙_}
+use mathlib.Core.Path.{_≡_, subst}
 use mathlib.Core.List.{List, _++_}
-use Prim.Native.Nat.{ℕ, suc, _-_, _/_, _^_, _≤_, _<_}
+use Prim.Native.Nat.{ℕ, _-_, _/_, _^_, _≤_}
 use native.Mathlib.Omega.{arith}
 use lib.Bits.{mask-lt}
 use lib.ListN.{length, getD, drop}
@@ -10,8 +10,6 @@ use Rattle.rows.specs.Rows.{SignalIn}
 use Rattle.rows.proofs.SignalLaw.{signal-more}
 use Rattle.rows.proofs.signal_before.Statement.{statement}
 use Rattle.rows.proofs.signal_before.Tie as tie
-use Rattle.rows.proofs.signal_before.Reads as reads
-use Rattle.rows.proofs.signal_before.Lts as lts
 
 abbrev Inv-loop : tie.InvT-loop
 Inv-loop after s k w₀ i₀ w i = (i ≤ length s) × ((t : List ℕ) → SignalIn t k after → SignalIn (drop i s ++ t) k w)

@@ -1,3 +1,4 @@
+-- The loop's letters with nothing after them, then the lead-in's with the loop's after them.
 use borrow.Author.Needs.{needs}
 use mathlib.Core.Path.{subst}
 use mathlib.Core.List.{List, [], append-nil}
@@ -7,19 +8,13 @@ use Rattle.rows.specs.Rows.{SignalIn}
 use Rattle.rows.proofs.RowLaw.{tells-var}
 use Rattle.rows.proofs.signal_row.Statement.{statement}
 use Rattle.rows.proofs.signal_row.Tie as tie
-use Rattle.rows.proofs.signal_row.Reads as reads
-use Rattle.rows.proofs.signal_row.Lts as lts
-use Rattle.rows.proofs.signal_before.Reads as signal-before-reads
 
--- src/lib.rt:56:19
 signal-before-requires : tie.Need-signal-before-requires
 signal-before-requires c κs = search needs
 
--- src/lib.rt:56:5
 signal-before-requires-2 : tie.Need-signal-before-requires-2
 signal-before-requires-2 c κs = search needs
 
--- src/lib.rt:52:1
 returns : tie.Need-returns
 returns c =
     let st = c .before .before .before .before in

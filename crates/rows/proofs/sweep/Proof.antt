@@ -1,17 +1,16 @@
 -- The loop's invariant: the two rows speak of a stretch of moments, which doubles at each turn until it is the whole row.
-use Prim.Native.Nat.{_-_}
+use Prim.Native.Nat.{_+_, _-_}
 use native.Mathlib.Omega.{arith}
+use Rattle.trace.specs.Letter.{mostLetters}
 use Rattle.rows.proofs.SweepLaw.{Stretch, single, doubled, whole, joined, joined-fits, swept}
 use Rattle.rows.proofs.sweep.Statement.{statement}
 use Rattle.rows.proofs.sweep.Tie as tie
-use Rattle.rows.proofs.sweep.Reads as reads
-use Rattle.rows.proofs.sweep.Lts as lts
 
 abbrev Inv-loop : tie.InvT-loop
 Inv-loop f g carry first₀ until₀ stretch₀ first until stretch = Stretch f (joined f g carry) first until stretch
 
 abbrev μ-loop : tie.MeasureT-loop
-μ-loop f g carry first₀ until₀ stretch₀ first until stretch = 128 - stretch
+μ-loop f g carry first₀ until₀ stretch₀ first until stretch = mostLetters + mostLetters - stretch
 
 shl-until : tie.Need-shl-until Inv-loop μ-loop
 shl-until c = omega arith

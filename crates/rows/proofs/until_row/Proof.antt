@@ -1,31 +1,23 @@
+-- A sweep of the padded rows is one over the letters; once on a finite trace, twice on a loop.
 use borrow.Author.Needs.{needs}
 use Prim.Native.Nat.{_/_, _^_}
 use native.Mathlib.Omega.{arith}
 use Rattle.rows.proofs.UntilLaw.{padded, tells-until-once, tells-until-twice}
 use Rattle.rows.proofs.until_row.Statement.{statement}
 use Rattle.rows.proofs.until_row.Tie as tie
-use Rattle.rows.proofs.until_row.Reads as reads
-use Rattle.rows.proofs.until_row.Lts as lts
-use Rattle.rows.proofs.mask.Reads as mask-reads
-use Rattle.rows.proofs.sweep.Reads as sweep-reads
 
--- src/lib.rt:102:9
 mask-requires : tie.Need-mask-requires
 mask-requires c κs = search needs
 
--- src/lib.rt:105:9
 sweep-requires : tie.Need-sweep-requires
 sweep-requires c κs = search needs
 
--- src/lib.rt:107:30
 shr-sweep : tie.Need-shr-sweep
 shr-sweep c = search needs
 
--- src/lib.rt:107:9
 sweep-requires-2 : tie.Need-sweep-requires-2
 sweep-requires-2 c κs = search needs
 
--- src/lib.rt:97:1
 returns : tie.Need-returns
 returns c lead loop x y d e F G =
     let a = c .before .before .before .before .args in
@@ -35,7 +27,6 @@ returns c lead loop x y d e F G =
     let R = padded (keep .result) (a .len) (a .f) (a .g) (once .result / 2 ^ a .start) (c .sweep2 .result) (keep .ensures) (keep .ok) (c .sweep2 .ensures) (omega arith) in
     tells-until-twice lead loop (a .f) (a .g) x y F G (once .result) (c .sweep2 .result) (omega arith) (rw e O) (rw (e, d) R)
 
--- src/lib.rt:97:1
 returns-2 : tie.Need-returns-2
 returns-2 c lead loop x y d e F G =
     let a = c .before .before .before .args in
