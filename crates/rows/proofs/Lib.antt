@@ -1,0 +1,6 @@
+pub mod BitLaw
+pub mod PlaceLaw
+pub mod RowLaw
+pub mod SignalLaw
+pub mod SweepLaw
+pub mod UntilLaw
