@@ -116,24 +116,13 @@ pub arm-literal : (b : BoolExpr) (a r : ℕ) {n m p : ℕ} {old mid now : List �
     → Walks (weighB adds b + 3) (literal b a r) n p old now
 arm-literal b a r w v = walks-then (λ i. gate i a r) refl w v
 
-pub is-three : (k : ℕ) → (k ≡ 0 → ⊥) → (k ≡ 1 → ⊥) → (k ≡ 2 → ⊥) → k < 4 → k ≡ 3
-is-three zero n0 n1 n2 h = absurd (n0 refl)
-is-three (suc zero) n0 n1 n2 h = absurd (n1 refl)
-is-three (suc (suc zero)) n0 n1 n2 h = absurd (n2 refl)
-is-three (suc (suc (suc k))) n0 n1 n2 h = omega arith
-
-is-two : (k : ℕ) → (k ≡ 0 → ⊥) → (k ≡ 1 → ⊥) → k < 3 → k ≡ 2
-is-two zero n0 n1 h = absurd (n0 refl)
-is-two (suc zero) n0 n1 h = absurd (n1 refl)
-is-two (suc (suc k)) n0 n1 h = omega arith
-
 -- The left operand of a bnot or a band, and that its nodes are fewer.
 pub left-boolean : (t : List ℕ) → Sound t → (i : ℕ) → i < count t → (kindOf t i ≡ 0 → ⊥) → (kindOf t i ≡ 1 → ⊥) → kindOf t i < 4
     → Boolean t i (leftOf t i) × (weighB adds (booleanAt t (leftOf t i)) + 1 ≤ weighB adds (booleanAt t i))
 left-boolean t s i h n0 n1 u = go (decLt (kindOf t i) 3)
   where
     go : Dec (kindOf t i < 3) → Boolean t i (leftOf t i) × (weighB adds (booleanAt t (leftOf t i)) + 1 ≤ weighB adds (booleanAt t i))
-    go (yes d) = let b = is-bnot t s i h (is-two (kindOf t i) n0 n1 d) in (b .0, omega (arith, weight-bnot (b .1)))
+    go (yes d) = let b = is-bnot t s i h (omega arith) in (b .0, omega (arith, weight-bnot (b .1)))
     go (no d) = let b = is-band t s i h (omega arith) in (b .0, omega (arith, weight-band (b .2), weightB-pos (booleanAt t (rightOf t i))))
 
 -- ── Formulas ──
@@ -183,16 +172,6 @@ pub arm-abort : (a r : ℕ) {f g : Formula} {b : BoolExpr} {n m p : ℕ} {old mi
 unfolding walk
 arm-abort a r {f} {g} e w v = as-formula a r e (walks-then (λ i. walk g i r) (weight-abort refl) w v)
 
-not-six : (k : ℕ) → 6 ≤ k → (k ≡ 6 → ⊥) → k < 8 → k ≡ 7
-not-six k lo n hi = elim (decLt 6 k) [ yes d ↦ omega arith | no d ↦ absurd (n (omega arith)) ]
-
-not-eight : (k : ℕ) → 8 ≤ k → (k ≡ 8 → ⊥) → (k ≡ 10 → ⊥) → k < 11 → k ≡ 9
-not-eight k lo n m hi =
-    elim (decLt 8 k) [
-      | yes d ↦ elim (decLt k 10) [ yes c ↦ omega arith | no c ↦ absurd (m (omega arith)) ]
-      | no d ↦ absurd (n (omega arith))
-    ]
-
 -- A weak or a strong node.
 pub record Literal (t : List ℕ) (i : ℕ) : Type 0 where
   pub operand : Boolean t i (leftOf t i)
@@ -228,7 +207,7 @@ joined-node t s i h lo n6 n8 n10 = go (decLt (kindOf t i) 8)
 
     go : Dec (kindOf t i < 8) → Joined t i
     go (yes d) =
-        let e : kindOf t i ≡ 7 = not-six (kindOf t i) lo n6 d in
+        let e : kindOf t i ≡ 7 = omega arith in
         let f = is-and t s i h e in
         record {
           left = f .0;
@@ -238,7 +217,7 @@ joined-node t s i h lo n6 n8 n10 = go (decLt (kindOf t i) 8)
               arm-and a r (f .2) w v (subst (λ (j : ℕ). Node1 j (m - 1) (p - 1) p q mid′ now) (z ∙ ap (λ (j : ℕ). cond (eqb j 9) 6 3) e) u);
         }
     go (no d) =
-        let e : kindOf t i ≡ 9 = not-eight (kindOf t i) (omega arith) n8 n10 known in
+        let e : kindOf t i ≡ 9 = omega (arith, known) in
         let f = is-until t s i h e in
         record {
           left = f .0;

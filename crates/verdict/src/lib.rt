@@ -1,0 +1,82 @@
+// The two verdicts.
+ghost use mathlib.Core.Path.{_≡_};
+ghost use Prim.Native.Nat.{_<_, _≤_};
+ghost use Rattle.table.specs.Node.{count, kindOf};
+ghost use Rattle.psl.specs.Parts.{booleanAt, formulaAt};
+ghost use Rattle.psl.specs.Sound.{Sound};
+ghost use Rattle.psl.specs.Empty.{onEmpty};
+ghost use Rattle.translate.specs.Translation.{treeB};
+ghost use Rattle.rows.specs.Rows.{Tells, Few};
+ghost use Rattle.verdict.specs.Rows.{TellsFormula};
+use rows::ALWAYS;
+use rows::Row;
+use table::NodeNo;
+use trace::Letter;
+
+// The row of a Boolean.
+fn boolean_row(t: &[u16], i: NodeNo, lead: &[Letter], cycle: &[Letter]) -> Row
+    requires { ⌜ Sound (now t) × (i .0 < count (now t)) × (kindOf (now t) (i .0) < 4) × Few (now lead) (now cycle) ⌝ }
+    ensures { λ w. ⌜ Tells (now (lead .entry)) (now (cycle .entry)) w (treeB (booleanAt (now (t .entry)) (i .0))) ⌝ }
+{
+    let at = 3 * (i.0 as usize);
+    let kind = t[at];
+    let left = t[at + 1];
+    let right = t[at + 2];
+    match kind {
+        0 => ALWAYS,
+        1 => rows::signal_row(lead, cycle, left),
+        2 => !boolean_row(t, NodeNo(left), lead, cycle),
+        _ => boolean_row(t, NodeNo(left), lead, cycle) & boolean_row(t, NodeNo(right), lead, cycle),
+    }
+}
+
+// The row of a formula's translation, by the rows of accept and reject.
+fn formula_row(t: &[u16], i: NodeNo, a: Row, r: Row, lead: &[Letter], cycle: &[Letter]) -> Row
+    requires { ⌜ Sound (now t) × (i .0 < count (now t)) × (4 ≤ kindOf (now t) (i .0)) × Few (now lead) (now cycle) ⌝ }
+    ensures { λ w. ⌜ TellsFormula (now (lead .entry)) (now (cycle .entry)) (formulaAt (now (t .entry)) (i .0)) a r w ⌝ }
+{
+    let at = 3 * (i.0 as usize);
+    let kind = t[at];
+    let left = NodeNo(t[at + 1]);
+    let right = NodeNo(t[at + 2]);
+    if kind < 6 {
+        return rows::gate(a, boolean_row(t, left, lead, cycle), r);
+    }
+    let start = lead.len();
+    let len = start + cycle.len();
+    match kind {
+        6 => !formula_row(t, left, r, a, lead, cycle),
+        7 => formula_row(t, left, a, r, lead, cycle) & formula_row(t, right, a, r, lead, cycle),
+        8 => {
+            let x = formula_row(t, left, a, r, lead, cycle);
+            rows::gate(a, rows::next_row(x, start, len), r)
+        }
+        9 => {
+            let x = formula_row(t, left, a, r, lead, cycle);
+            let y = formula_row(t, right, a, r, lead, cycle);
+            rows::until_row(x, y, start, len)
+        }
+        _ => {
+            let b = boolean_row(t, right, lead, cycle);
+            formula_row(t, left, rows::gate(a, b, r), r, lead, cycle)
+        }
+    }
+}
+
+// A formula on the empty trace.
+fn on_empty(t: &[u16], i: NodeNo) -> bool
+    requires { ⌜ Sound (now t) × (i .0 < count (now t)) × (4 ≤ kindOf (now t) (i .0)) ⌝ }
+    ensures { λ b. ⌜ b ≡ onEmpty (formulaAt (now (t .entry)) (i .0)) ⌝ }
+{
+    let at = 3 * (i.0 as usize);
+    let kind = t[at];
+    let left = NodeNo(t[at + 1]);
+    let right = NodeNo(t[at + 2]);
+    match kind {
+        4 => true,
+        6 => !on_empty(t, left),
+        7 => on_empty(t, left) & on_empty(t, right),
+        10 => on_empty(t, left),
+        _ => false,
+    }
+}
