@@ -2,5 +2,7 @@ pub mod BitLaw
 pub mod PlaceLaw
 pub mod RowLaw
 pub mod SignalLaw
+pub mod NextLaw
 pub mod SweepLaw
 pub mod UntilLaw
+pub mod TableLaw

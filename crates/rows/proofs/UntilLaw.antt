@@ -32,8 +32,8 @@ pub record SweptOver (n f g : ℕ) (c : Bool) (r : ℕ) : Type 0 where
   pub last : (m : ℕ) → m + 1 ≡ n → bit r m ≡ bit g m || bit f m && c
 
 -- Bits past the last letter, first operand yes and second no, hand the carry on.
-module _ (keep n f g carry r : ℕ) (mask : (m : ℕ) → bit keep m ≡ ltb m n) (fits : keep < 2 ^ mostLetters)
-    (swept : Swept (bitOr f (2 ^ mostLetters - 1 - keep)) (bitAnd g keep) carry r) where
+module _ (keep n f g : ℕ) (mask : (m : ℕ) → bit keep m ≡ ltb m n) (fits : keep < 2 ^ mostLetters) (most : n ≤ mostLetters)
+    (carry r : ℕ) (swept : Swept (bitOr f (2 ^ mostLetters - 1 - keep)) (bitAnd g keep) carry r) where
   in-word : (m : ℕ) → m < mostLetters → follows r carry m ≡ bit r m
   in-word m h = rw (ne-eqb m mostLetters (omega arith))
 
@@ -45,20 +45,17 @@ module _ (keep n f g carry r : ℕ) (mask : (m : ℕ) → bit keep m ≡ ltb m n
       ∙ ap₂ (λ (b a : Bool). b || a && follows r carry (m + 1)) (cleared keep n mask g m h) (filled keep n mask f m mostLetters fits l h)
       ∙ past d (m + 1) (omega arith) (omega arith)
 
-  pub padded : n ≤ mostLetters → SweptOver n f g (bit carry 0) r
-  padded most =
+  within : (m : ℕ) (c : Bool) → m < n → follows r carry (m + 1) ≡ c → bit r m ≡ bit g m || bit f m && c
+  within m c h e =
+      let l : m < mostLetters = omega arith in
+      swept m l ∙ ap₂ _||_ (kept keep n mask g m h) (ap₂ _&&_ (kept-by-or keep n mask f m mostLetters fits l h) e)
+
+  pub padded : SweptOver n f g (bit carry 0) r
+  padded =
       record {
-        inner = λ m h. step m (omega arith) ∙ ap (λ (c : Bool). bit g m || bit f m && c) (in-word (m + 1) (omega arith));
-        last = λ m h.
-            step m (omega arith)
-            ∙ ap (λ (c : Bool). bit g m || bit f m && c) (past (mostLetters - (m + 1)) (m + 1) (omega arith) (omega arith));
+        inner = λ m h. within m (bit r (m + 1)) (omega arith) (in-word (m + 1) (omega arith));
+        last = λ m h. within m (bit carry 0) (omega arith) (past (mostLetters - (m + 1)) (m + 1) (omega arith) (omega arith));
       }
-    where
-      step : (m : ℕ) → m < n → bit r m ≡ bit g m || bit f m && follows r carry (m + 1)
-      step m h =
-          let l : m < mostLetters = omega arith in
-          swept m l
-          ∙ ap₂ (λ (b a : Bool). b || a && follows r carry (m + 1)) (kept keep n mask g m h) (kept-by-or keep n mask f m mostLetters fits l h)
 
 -- ── Until by one moment ──
 
@@ -137,7 +134,8 @@ module _ (lead loop : List ℕ) (f g : ℕ) where
 
     module _ (c : Bool) (r : ℕ) (R : SweptOver n f g c r) where
       -- Where the row says yes there is a witness, if the carry says yes only of an until at the loop's start.
-      sound : (p ≡ n → T c → ⊥) → ((i : ℕ) → InTrace t i → at i ≡ p → T c → Until i) → (i : ℕ) → InTrace t i → T (bit r (at i)) → Until i
+      sound : (p ≡ n → T c → ⊥) → ((i : ℕ) → InTrace t i → at i ≡ p → T c → Until i)
+          → (i : ℕ) → InTrace t i → T (bit r (at i)) → Until i
       sound ended looped i k h =
           least c r R Until (λ i k b. until-now x y t i k (G .at i k .1 b)) (λ i k a N u. until-later x y t i (F .at i k .1 a) (later i N u))
           n i (omega arith) k h
@@ -182,7 +180,8 @@ module _ (lead loop : List ℕ) (f g : ℕ) where
     tells-until-once r q R = tells (bit 0 0) r R (from-no r R) (λ l h. absurd (omega arith))
 
     -- On a loop a second sweep goes on from what the first says of the loop's start, and says the same of it.
-    pub tells-until-twice : (once r : ℕ) → p < n → SweptOver n f g (bit 0 0) once → SweptOver n f g (bit (once / 2 ^ p) 0) r → Tells lead loop r (luntil x y)
+    pub tells-until-twice : (once r : ℕ) → p < n → SweptOver n f g (bit 0 0) once → SweptOver n f g (bit (once / 2 ^ p) 0) r
+        → Tells lead loop r (luntil x y)
     tells-until-twice once r q O R′ =
         tells (bit once p) r R (sound (bit once p) r R (λ e h. absurd (omega arith)) (λ i k e h. from-no once O i k (rw e h))) same
       where

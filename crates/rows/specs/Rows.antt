@@ -8,8 +8,10 @@ use lib.Dec.{T, ltb, eqb}
 use lib.ListN.{length, getD}
 use Rattle.trace.specs.Letter.{bit, mostLetters}
 use Rattle.trace.specs.Moments.{letterAt, size, InTrace}
+use Rattle.table.specs.Node.{node}
 use Rattle.ltl.specs.Tree.{Ltl}
 use Rattle.ltl.specs.Meaning.{LtlHolds}
+use Rattle.ltl.specs.Table.{treeOfNode}
 
 -- Where moment m stands in the letters of both lists: past the lead-in it goes round the loop.
 unfoldable pub place : List ℕ → List ℕ → ℕ → ℕ
@@ -34,3 +36,8 @@ follows r carry m = cond (eqb m mostLetters) (bit carry 0) (bit r m)
 
 abbrev pub Swept : ℕ → ℕ → ℕ → ℕ → Type 0
 Swept f g carry r = (m : ℕ) → m < mostLetters → bit r m ≡ bit g m || bit f m && follows r carry (m + 1)
+
+-- Row w tells a node of kind k and left place l, whatever trees rows a and b tell of its operands: a kind from 2 on has them.
+abbrev pub TellsNode : List ℕ → List ℕ → ℕ → ℕ → ℕ → ℕ → ℕ → Type 0
+TellsNode lead loop k l a b w =
+    (x : ℕ → Ltl) (r : ℕ) → (2 ≤ k → Tells lead loop a (x l)) → (2 ≤ k → Tells lead loop b (x r)) → Tells lead loop w (treeOfNode x (node k l r))

@@ -1,4 +1,4 @@
-// Rows: the truths of a node at all moments of a trace, in one word.
+// Rows: the truths of an LTL tree at all moments of a trace, in one word. not, and, or are one operation of the machine; RowLaw has what they tell.
 use trace::Letter;
 ghost use mathlib.Core.Path.{_≡_};
 ghost use mathlib.Core.Logic.{_↔_};
@@ -8,19 +8,17 @@ ghost use lib.Dec.{T, ltb};
 ghost use lib.ListN.{length};
 ghost use Rattle.trace.specs.Letter.{bit, signals, mostLetters};
 ghost use Rattle.trace.specs.Moments.{size};
-ghost use Rattle.table.specs.Node.{node};
 ghost use Rattle.ltl.specs.Tree.{Ltl, lvar, lnot, land, lor, lnext, luntil};
 ghost use Rattle.ltl.specs.Meaning.{LtlHoldsOn};
-ghost use Rattle.ltl.specs.Table.{treeOfNode};
-ghost use Rattle.rows.specs.Rows.{Tells, Few, SignalIn, Swept};
+ghost use Rattle.rows.specs.Rows.{Tells, Few, SignalIn, Swept, TellsNode};
 
-// Bit m is the truth at the letter m of both lists together; bits past the last letter may hold anything.
+// Bit m is the truth where letter m of both lists stands; bits past the last letter may hold anything.
 pub type Row = u64;
 
-// The most letters of a trace: a bit for each.
+// The most letters that a verdict takes: a bit for each.
 pub const MOST_LETTERS: usize = 64;
 
-// The last of them.
+// The number of the last bit.
 const LAST: usize = MOST_LETTERS - 1;
 
 // Yes at every moment.
@@ -34,7 +32,7 @@ fn mask(n: usize) -> Row
     ALWAYS >> (MOST_LETTERS - n)
 }
 
-// Signal k at a list's letters, before a row of what comes after them.
+// Signal k at the letters of a list, put before a row of what comes after them.
 fn signal_before(after: Row, s: &[Letter], k: u16) -> Row
     requires { ⌜ k < signals ⌝ }
     ensures { λ r. ⌜ ((t : List ℕ) → SignalIn t k after → SignalIn (now (s .entry) ++ t) k r) ⌝ }
@@ -48,7 +46,7 @@ fn signal_before(after: Row, s: &[Letter], k: u16) -> Row
     w
 }
 
-// var k.
+// The row of signal k.
 pub fn signal_row(lead: &[Letter], cycle: &[Letter], k: u16) -> Row
     requires { ⌜ Few (now lead) (now cycle) × (k < signals) ⌝ }
     ensures { λ w. ⌜ Tells (now (lead .entry)) (now (cycle .entry)) w (lvar k) ⌝ }
@@ -56,7 +54,7 @@ pub fn signal_row(lead: &[Letter], cycle: &[Letter], k: u16) -> Row
     signal_before(signal_before(0, cycle, k), lead, k)
 }
 
-// a or (b and not r).
+// What accept row a and reject row r make of row b: a or (b and not r).
 pub fn gate(a: Row, b: Row, r: Row) -> Row
     ensures { λ w. ⌜ ((lead loop : List ℕ) (x y z : Ltl) → Few lead loop → Tells lead loop a x → Tells lead loop b y → Tells lead loop r z
         → Tells lead loop w (lor x (land y (lnot z)))) ⌝ }
@@ -64,7 +62,7 @@ pub fn gate(a: Row, b: Row, r: Row) -> Row
     a | (b & !r)
 }
 
-// next, on a trace of start letters before the loop and len in all.
+// The row of next, on a trace of start letters before the loop and len in all: a shift, and on a loop its first bit for the last.
 pub fn next_row(a: Row, start: usize, len: usize) -> Row
     requires { ⌜ (0 < len) × (len ≤ mostLetters) × (start ≤ len) ⌝ }
     ensures { λ w. ⌜ ((lead loop : List ℕ) (x : Ltl) → length lead ≡ start → size lead loop ≡ len
@@ -78,7 +76,8 @@ pub fn next_row(a: Row, start: usize, len: usize) -> Row
     }
 }
 
-// until over all bits of a row from the last back, in six doublings: `until` and `first` speak of the next `stretch` moments.
+// The until step: until over all bits from the last back, where carry stands past the last. Six doublings: at each moment `until` and `first` speak of
+// the next `stretch` moments, until and the first operand at all of them.
 fn sweep(f: Row, g: Row, carry: Row) -> Row
     ensures { λ r. ⌜ Swept f g carry r ⌝ }
 {
@@ -93,7 +92,8 @@ fn sweep(f: Row, g: Row, carry: Row) -> Row
     until
 }
 
-// until, on a trace of start letters before the loop and len in all: from no, and on a loop again from what that says of the loop's start.
+// The row of until, on a trace of start letters before the loop and len in all: from no, and on a loop again from what that says of the loop's start.
+// Past the last letter the first operand is yes and the second no, which hands the carry on.
 pub fn until_row(f: Row, g: Row, start: usize, len: usize) -> Row
     requires { ⌜ (0 < len) × (len ≤ mostLetters) × (start ≤ len) ⌝ }
     ensures { λ w. ⌜ ((lead loop : List ℕ) (x y : Ltl) → length lead ≡ start → size lead loop ≡ len
@@ -110,12 +110,10 @@ pub fn until_row(f: Row, g: Row, start: usize, len: usize) -> Row
     }
 }
 
-// The row of a node of kind k and left place l, by its operands' rows.
+// The row of an LTL node of kind k whose left place holds l, by its operands' rows a and b.
 pub fn node_row(k: u16, l: u16, a: Row, b: Row, lead: &[Letter], cycle: &[Letter]) -> Row
     requires { ⌜ Few (now lead) (now cycle) × (k ≡ 1 → l < signals) ⌝ }
-    ensures { λ w. ⌜ ((x : ℕ → Ltl) (r : ℕ)
-        → (2 ≤ k → Tells (now (lead .entry)) (now (cycle .entry)) a (x l)) → (2 ≤ k → Tells (now (lead .entry)) (now (cycle .entry)) b (x r))
-        → Tells (now (lead .entry)) (now (cycle .entry)) w (treeOfNode x (node k l r))) ⌝ }
+    ensures { λ w. ⌜ TellsNode (now (lead .entry)) (now (cycle .entry)) k l a b w ⌝ }
 {
     let start = lead.len();
     let len = start + cycle.len();
@@ -130,7 +128,7 @@ pub fn node_row(k: u16, l: u16, a: Row, b: Row, lead: &[Letter], cycle: &[Letter
     }
 }
 
-// Whether a tree holds on a trace, by its row.
+// Whether a tree holds on a trace, by its row: its truth at moment 0.
 pub fn at_first(w: Row) -> bool
     ensures { λ b. ⌜ ((lead loop : List ℕ) (x : Ltl) → Few lead loop → Tells lead loop w x → LtlHoldsOn x lead loop ↔ T b) ⌝ }
 {

@@ -1,7 +1,7 @@
 -- Both ways the row is the operand's, shifted by one; on a loop the last bit is the one at the loop's start.
 use borrow.Author.Needs.{needs}
 use native.Mathlib.Omega.{arith}
-use Rattle.rows.proofs.RowLaw.{shifted-once, shifted-round, tells-next}
+use Rattle.rows.proofs.NextLaw.{tells-next, shifted-ended, shifted-looped}
 use Rattle.rows.proofs.next_row.Statement.{statement}
 use Rattle.rows.proofs.next_row.Tie as tie
 
@@ -20,12 +20,14 @@ shl-result c = search needs
 returns : tie.Need-returns
 returns c lead loop x d e A =
     let a = c .before .before .args in
-    tells-next (rw (e, d) (shifted-round (c .before .mask .result) (a .len) (c .before .mask .ensures) (a .a) (a .start) (omega arith) (omega arith))) A
+    let keep = c .before .mask in
+    tells-next (rw (e, d) (shifted-looped (keep .result) (a .len) (keep .ensures) (a .a) (a .start) (omega arith) (omega arith))) A
 
 returns-2 : tie.Need-returns-2
 returns-2 c lead loop x d e A =
     let a = c .before .before .args in
-    tells-next (rw (e, d) (shifted-once (c .before .mask .result) (a .len) (c .before .mask .ensures) (a .a) (a .start) (omega arith))) A
+    let keep = c .before .mask in
+    tells-next (rw (e, d) (shifted-ended (keep .result) (a .len) (keep .ensures) (a .a) (a .start) (omega arith))) A
 
 pub next-row-spec : {M : Type 1} → statement M
 next-row-spec =

@@ -68,7 +68,8 @@ returns-6 : tie.Need-returns-6
 unfolding treeOfNode
 returns-6 c x r A B =
     let st = c .before .before .before .before in
-    rw (c .before .match .keys6) (c .until-row .ensures (st .args .lead .now) (st .args .cycle .now) (x (st .args .l)) (x r) refl refl (A (omega arith)) (B (omega arith)))
+    rw (c .before .match .keys6)
+    (c .until-row .ensures (st .args .lead .now) (st .args .cycle .now) (x (st .args .l)) (x r) refl refl (A (omega arith)) (B (omega arith)))
 
 returns-7 : tie.Need-returns-7
 returns-7 c x r A B =

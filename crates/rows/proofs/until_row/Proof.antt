@@ -23,8 +23,9 @@ returns c lead loop x y d e F G =
     let a = c .before .before .before .before .args in
     let keep = c .before .before .before .mask in
     let once = c .before .before .sweep in
-    let O = padded (keep .result) (a .len) (a .f) (a .g) 0 (once .result) (keep .ensures) (keep .ok) (once .ensures) (omega arith) in
-    let R = padded (keep .result) (a .len) (a .f) (a .g) (once .result / 2 ^ a .start) (c .sweep2 .result) (keep .ensures) (keep .ok) (c .sweep2 .ensures) (omega arith) in
+    let over = padded (keep .result) (a .len) (a .f) (a .g) (keep .ensures) (keep .ok) (omega arith) in
+    let O = over 0 (once .result) (once .ensures) in
+    let R = over (once .result / 2 ^ a .start) (c .sweep2 .result) (c .sweep2 .ensures) in
     tells-until-twice lead loop (a .f) (a .g) x y F G (once .result) (c .sweep2 .result) (omega arith) (rw e O) (rw (e, d) R)
 
 returns-2 : tie.Need-returns-2
@@ -32,7 +33,7 @@ returns-2 c lead loop x y d e F G =
     let a = c .before .before .before .args in
     let keep = c .before .before .mask in
     let once = c .before .sweep in
-    let O = padded (keep .result) (a .len) (a .f) (a .g) 0 (once .result) (keep .ensures) (keep .ok) (once .ensures) (omega arith) in
+    let O = padded (keep .result) (a .len) (a .f) (a .g) (keep .ensures) (keep .ok) (omega arith) 0 (once .result) (once .ensures) in
     tells-until-once lead loop (a .f) (a .g) x y F G (once .result) (omega arith) (rw e O)
 
 pub until-row-spec : {M : Type 1} → statement M
