@@ -1,2 +1,3 @@
 pub mod KnownLaw
 pub mod TreeLaw
+pub mod SoundLaw

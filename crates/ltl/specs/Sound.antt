@@ -1,5 +1,6 @@
 -- Tables whose nodes fit together: what an accepted LTL table gives to those that walk over it.
 use Prim.Native.Nat.{ℕ, _<_}
+use mathlib.Core.Path.{_≡_}
 use mathlib.Core.List.{List, [], _∷_}
 use lib.ListN.{getD}
 use Rattle.trace.specs.Letter.{signals}
@@ -10,12 +11,12 @@ unfoldable pub operandsFit : List ℕ → ℕ → List (Type 0)
 operandsFit t i =
     let l = leftOf t i in
     let r = rightOf t i in
-    Unit {0}
-    ∷ (l < signals)
-    ∷ (l < i)
+    ((l ≡ 0) × (r ≡ 0))
+    ∷ ((l < signals) × (r ≡ 0))
+    ∷ ((l < i) × (r ≡ 0))
     ∷ ((l < i) × (r < i))
     ∷ ((l < i) × (r < i))
-    ∷ (l < i)
+    ∷ ((l < i) × (r ≡ 0))
     ∷ ((l < i) × (r < i))
     ∷ []
 

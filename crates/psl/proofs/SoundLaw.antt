@@ -31,11 +31,11 @@ module _ (t : List ℕ) (sound : Sound t) (i : ℕ) (inside : i < count t) where
 
   pub is-var : kindOf t i ≡ 1 → (leftOf t i < signals) × (booleanAt t i ≡ var (leftOf t i))
   unfolding operandsFit
-  is-var e = (fits 1 e, ap asBoolean (at-var t i within e))
+  is-var e = (fits 1 e .0, ap asBoolean (at-var t i within e))
 
   pub is-bnot : kindOf t i ≡ 2 → Boolean t i (leftOf t i) × (booleanAt t i ≡ bnot (booleanAt t (leftOf t i)))
   unfolding operandsFit
-  is-bnot e = let l = fits 2 e in (l, ap asBoolean (at-bnot t i within (l .0) e))
+  is-bnot e = let l = fits 2 e .0 in (l, ap asBoolean (at-bnot t i within (l .0) e))
 
   pub is-band : kindOf t i ≡ 3
       → Boolean t i (leftOf t i) × Boolean t i (rightOf t i) × (booleanAt t i ≡ band (booleanAt t (leftOf t i)) (booleanAt t (rightOf t i)))
@@ -46,15 +46,15 @@ module _ (t : List ℕ) (sound : Sound t) (i : ℕ) (inside : i < count t) where
 
   pub is-weak : kindOf t i ≡ 4 → Boolean t i (leftOf t i) × (formulaAt t i ≡ weak (booleanAt t (leftOf t i)))
   unfolding operandsFit
-  is-weak e = let l = fits 4 e in (l, ap asFormula (at-weak t i within (l .0) e))
+  is-weak e = let l = fits 4 e .0 in (l, ap asFormula (at-weak t i within (l .0) e))
 
   pub is-strong : kindOf t i ≡ 5 → Boolean t i (leftOf t i) × (formulaAt t i ≡ strong (booleanAt t (leftOf t i)))
   unfolding operandsFit
-  is-strong e = let l = fits 5 e in (l, ap asFormula (at-strong t i within (l .0) e))
+  is-strong e = let l = fits 5 e .0 in (l, ap asFormula (at-strong t i within (l .0) e))
 
   pub is-not : kindOf t i ≡ 6 → Formula t i (leftOf t i) × (formulaAt t i ≡ fnot (formulaAt t (leftOf t i)))
   unfolding operandsFit
-  is-not e = let l = fits 6 e in (l, ap asFormula (at-not t i within (l .0) e))
+  is-not e = let l = fits 6 e .0 in (l, ap asFormula (at-not t i within (l .0) e))
 
   pub is-and : kindOf t i ≡ 7
       → Formula t i (leftOf t i) × Formula t i (rightOf t i) × (formulaAt t i ≡ fand (formulaAt t (leftOf t i)) (formulaAt t (rightOf t i)))
@@ -63,7 +63,7 @@ module _ (t : List ℕ) (sound : Sound t) (i : ℕ) (inside : i < count t) where
 
   pub is-next : kindOf t i ≡ 8 → Formula t i (leftOf t i) × (formulaAt t i ≡ next (formulaAt t (leftOf t i)))
   unfolding operandsFit
-  is-next e = let l = fits 8 e in (l, ap asFormula (at-next t i within (l .0) e))
+  is-next e = let l = fits 8 e .0 in (l, ap asFormula (at-next t i within (l .0) e))
 
   pub is-until : kindOf t i ≡ 9
       → Formula t i (leftOf t i) × Formula t i (rightOf t i) × (formulaAt t i ≡ until (formulaAt t (leftOf t i)) (formulaAt t (rightOf t i)))

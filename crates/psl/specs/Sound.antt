@@ -1,5 +1,6 @@
 -- Tables whose nodes fit together: what an accepted PSL table gives to those that walk over it.
 use Prim.Native.Nat.{ℕ, _≤_, _<_}
+use mathlib.Core.Path.{_≡_}
 use mathlib.Core.List.{List, [], _∷_}
 use lib.ListN.{getD}
 use Rattle.trace.specs.Letter.{signals}
@@ -17,15 +18,15 @@ unfoldable pub operandsFit : List ℕ → ℕ → List (Type 0)
 operandsFit t i =
     let l = leftOf t i in
     let r = rightOf t i in
-    Unit {0}
-    ∷ (l < signals)
-    ∷ Boolean t i l
+    ((l ≡ 0) × (r ≡ 0))
+    ∷ ((l < signals) × (r ≡ 0))
+    ∷ (Boolean t i l × (r ≡ 0))
     ∷ (Boolean t i l × Boolean t i r)
-    ∷ Boolean t i l
-    ∷ Boolean t i l
-    ∷ Formula t i l
+    ∷ (Boolean t i l × (r ≡ 0))
+    ∷ (Boolean t i l × (r ≡ 0))
+    ∷ (Formula t i l × (r ≡ 0))
     ∷ (Formula t i l × Formula t i r)
-    ∷ Formula t i l
+    ∷ (Formula t i l × (r ≡ 0))
     ∷ (Formula t i l × Formula t i r)
     ∷ (Formula t i l × Boolean t i r)
     ∷ []

@@ -1,9 +1,13 @@
 // The two verdicts.
 ghost use mathlib.Core.Path.{_≡_};
-ghost use Prim.Native.Nat.{_<_, _≤_};
+ghost use Prim.Native.Nat.{_-_, _<_, _≤_};
+ghost use lib.ListN.{length, getD};
+ghost use Rattle.trace.specs.Letter.{signals};
 ghost use Rattle.table.specs.Node.{count, kindOf};
 ghost use Rattle.psl.specs.Parts.{booleanAt, formulaAt};
 ghost use Rattle.psl.specs.Sound.{Sound};
+ghost use Rattle.ltl.specs.Sound.{Sound as LtlSound};
+ghost use Rattle.ltl.specs.Table.{treeOf};
 ghost use Rattle.psl.specs.Empty.{onEmpty};
 ghost use Rattle.translate.specs.Translation.{treeB};
 ghost use Rattle.rows.specs.Rows.{Tells, Few};
@@ -78,5 +82,23 @@ fn on_empty(t: &[u16], i: NodeNo) -> bool
         7 => on_empty(t, left) & on_empty(t, right),
         10 => on_empty(t, left),
         _ => false,
+    }
+}
+
+// The rows of all nodes of an LTL table, from node 0 up.
+fn fill_rows(t: &[u16], lead: &[Letter], cycle: &[Letter], told: &mut [Row])
+    requires { ⌜ LtlSound (now t) × (0 < count (now t)) × Few (now lead) (now cycle) × (count (now t) ≤ length (now told)) × (signals ≤ length (now told)) ⌝ }
+    ensures { λ _. ⌜ Tells (now (lead .entry)) (now (cycle .entry)) (getD (now (told .exit)) (count (now (t .entry)) - 1) 0) (treeOf (now (t .entry))) ⌝ }
+{
+    let n = t.len() / 3;
+    let mut i: usize = 0;
+    while i < n {
+        let kind = t[3 * i];
+        let left = t[3 * i + 1];
+        let right = t[3 * i + 2];
+        let a = told[left as usize];
+        let b = told[right as usize];
+        told[i] = rows::node_row(kind, left, a, b, lead, cycle);
+        i += 1;
     }
 }
