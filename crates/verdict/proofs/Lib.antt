@@ -1,1 +1,2 @@
 pub mod ArmLaw
+pub mod HoldsLaw

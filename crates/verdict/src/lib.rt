@@ -1,12 +1,18 @@
 // The two verdicts.
 ghost use mathlib.Core.Path.{_≡_};
+ghost use mathlib.Core.Logic.{_↔_};
 ghost use Prim.Native.Nat.{_-_, _<_, _≤_};
+ghost use lib.Dec.{T};
 ghost use lib.ListN.{length, getD};
-ghost use Rattle.trace.specs.Letter.{signals};
+ghost use Rattle.trace.specs.Letter.{signals, mostLetters};
+ghost use Rattle.trace.specs.Moments.{size};
 ghost use Rattle.table.specs.Node.{count, kindOf};
+ghost use Rattle.psl.specs.Meaning.{HoldsOn};
+ghost use Rattle.psl.specs.Table.{formulaOf};
 ghost use Rattle.psl.specs.Parts.{booleanAt, formulaAt};
 ghost use Rattle.psl.specs.Sound.{Sound};
 ghost use Rattle.ltl.specs.Sound.{Sound as LtlSound};
+ghost use Rattle.ltl.specs.Meaning.{LtlHoldsOn};
 ghost use Rattle.ltl.specs.Table.{treeOf};
 ghost use Rattle.psl.specs.Empty.{onEmpty};
 ghost use Rattle.translate.specs.Translation.{treeB};
@@ -101,4 +107,32 @@ fn fill_rows(t: &[u16], lead: &[Letter], cycle: &[Letter], told: &mut [Row])
         told[i] = rows::node_row(kind, left, a, b, lead, cycle);
         i += 1;
     }
+}
+
+// Whether an accepted LTL table holds on a trace. Small tables, which are the rule, clear a small array.
+pub fn ltl_holds(t: &[u16], lead: &[Letter], cycle: &[Letter]) -> bool
+    requires { ⌜ LtlSound (now t) × (0 < count (now t)) × (count (now t) ≤ 4096) × Few (now lead) (now cycle) ⌝ }
+    ensures { λ b. ⌜ LtlHoldsOn (treeOf (now (t .entry))) (now (lead .entry)) (now (cycle .entry)) ↔ T b ⌝ }
+{
+    let last = t.len() / 3 - 1;
+    if last < 128 {
+        let mut few = [0u64; 128];
+        fill_rows(t, lead, cycle, &mut few);
+        return rows::at_first(few[last]);
+    }
+    let mut told = [0u64; 4096];
+    fill_rows(t, lead, cycle, &mut told);
+    rows::at_first(told[last])
+}
+
+// Whether an accepted PSL table holds on a trace: the translation's row, with nothing accepted or rejected yet.
+pub fn psl_holds(t: &[u16], lead: &[Letter], cycle: &[Letter]) -> bool
+    requires { ⌜ Sound (now t) × (0 < count (now t)) × (count (now t) ≤ 1024) × (4 ≤ kindOf (now t) (count (now t) - 1)) × (size (now lead) (now cycle) ≤ mostLetters) ⌝ }
+    ensures { λ b. ⌜ HoldsOn (formulaOf (now (t .entry))) (now (lead .entry)) (now (cycle .entry)) ↔ T b ⌝ }
+{
+    let root = NodeNo((t.len() / 3 - 1) as u16);
+    if lead.len() + cycle.len() == 0 {
+        return on_empty(t, root);
+    }
+    rows::at_first(formula_row(t, root, 0, 0, lead, cycle))
 }
