@@ -12,25 +12,12 @@ use lib.ListN.{length, length-append}
 use Rattle.trace.specs.Letter.{bit, mostLetters}
 use Rattle.trace.specs.Moments.{letterAt, InTrace}
 use Rattle.trace.proofs.MomentsLaw.{starts}
+use Rattle.trace.proofs.TestLaw.{not-iff, and-iff, or-iff}
 use Rattle.ltl.specs.Tree.{Ltl, ltrue, lvar, lnot, land, lor}
 use Rattle.ltl.specs.Meaning.{LtlHoldsOn}
 use Rattle.rows.specs.Rows.{place, Tells, Few, SignalIn}
 use Rattle.rows.proofs.BitLaw.{bit-not, bit-ones, bit-and, bit-or}
 use Rattle.rows.proofs.PlaceLaw.{place-lt, place-letter, place-first}
-
--- ── Tests ──
-
-T-not : {A : Type 0} (b : Bool) → A ↔ T b → (A → ⊥) ↔ T (not b)
-T-not true e = (λ h. h (e .1 tt), λ h. absurd h)
-T-not false e = (λ h. tt, λ h. e .0)
-
-pub T-and : {A B : Type 0} (a b : Bool) → A ↔ T a → B ↔ T b → (A × B) ↔ T (a && b)
-T-and true b e d = (λ h. d .0 (h .1), λ h. (e .1 tt, d .1 h))
-T-and false b e d = (λ h. e .0 (h .0), λ h. absurd h)
-
-pub T-or : {A B : Type 0} (a b : Bool) → A ↔ T a → B ↔ T b → (A ⊎ B) ↔ T (a || b)
-T-or true b e d = (λ h. tt, λ h. inl (e .1 tt))
-T-or false b e d = (λ h. elim h [ inl a ↦ absurd (e .0 a) | inr c ↦ d .0 c ], λ h. inr (d .1 h))
 
 module _ {lead loop : List ℕ} (few : Few lead loop) where
   in-row : (i : ℕ) → InTrace (letterAt lead loop) i → place lead loop i < mostLetters
@@ -44,7 +31,7 @@ module _ {lead loop : List ℕ} (few : Few lead loop) where
   pub tells-not : {a : ℕ} {x : Ltl} → a < 2 ^ mostLetters → Tells lead loop a x → Tells lead loop (2 ^ mostLetters - 1 - a) (lnot x)
   tells-not {a} h A =
       record {
-        at = λ i k. rw (bit-not mostLetters (place lead loop i) a h (in-row i k)) (T-not (bit a (place lead loop i)) (A .at i k));
+        at = λ i k. rw (bit-not mostLetters (place lead loop i) a h (in-row i k)) (not-iff (bit a (place lead loop i)) (A .at i k));
       }
 
   pub tells-false : Tells lead loop 0 (lnot ltrue)
@@ -54,13 +41,13 @@ module _ {lead loop : List ℕ} (few : Few lead loop) where
     pub tells-and : Tells lead loop (bitAnd a b) (land x y)
     tells-and =
         record {
-          at = λ i k. let m = place lead loop i in rw (bit-and a b m) (T-and (bit a m) (bit b m) (A .at i k) (B .at i k));
+          at = λ i k. let m = place lead loop i in rw (bit-and a b m) (and-iff (bit a m) (bit b m) (A .at i k) (B .at i k));
         }
 
     pub tells-or : Tells lead loop (bitOr a b) (lor x y)
     tells-or =
         record {
-          at = λ i k. let m = place lead loop i in rw (bit-or a b m) (T-or (bit a m) (bit b m) (A .at i k) (B .at i k));
+          at = λ i k. let m = place lead loop i in rw (bit-or a b m) (or-iff (bit a m) (bit b m) (A .at i k) (B .at i k));
         }
 
   -- ── Signals ──

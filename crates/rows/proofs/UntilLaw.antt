@@ -18,11 +18,11 @@ use Rattle.ltl.specs.Meaning.{LtlHolds}
 use Rattle.rows.specs.Rows.{place, Tells, follows, Swept}
 use Rattle.rows.proofs.BitLaw.{bit-zero, bit-brought, kept, cleared, kept-by-or, filled}
 use Rattle.rows.proofs.PlaceLaw.{place-lt, place-start, in-loop, Next, on, round, end, next}
-use Rattle.rows.proofs.RowLaw.{T-and, T-or}
+use Rattle.trace.proofs.TestLaw.{and-iff, or-iff}
 
 -- A step: the second operand, or the first and what follows.
 step-is : (b a c : Bool) → (T b ⊎ (T a × T c)) ↔ T (b || a && c)
-step-is b a c = T-or b (a && c) Iff·rfl (T-and a c Iff·rfl Iff·rfl)
+step-is b a c = or-iff b (a && c) Iff·rfl (and-iff a c Iff·rfl Iff·rfl)
 
 -- ── A sweep over n letters ──
 

@@ -1,7 +1,7 @@
 -- The translation keeps the meaning at every moment of a trace that has no gap and can be searched.
 use Prim.Native.Nat.{ℕ, zero, suc, _+_, _-_, _≤_, _<_}
 use mathlib.Core.Path.{_≡_, refl, sym, ap, subst, fun-ext, _∙_}
-use mathlib.Core.Logic.{_⊎_, inl, inr, _↔_, Iff·trans}
+use mathlib.Core.Logic.{_⊎_, inl, inr, _↔_, Iff·symm, Iff·trans}
 use mathlib.Core.Bool.{Bool, true, false, cond, not, _&&_, _||_}
 use mathlib.Core.Option.{Option, none, some}
 use native.Mathlib.Omega.{arith}
@@ -30,16 +30,16 @@ swap-iff A B = (λ h. (h .1, h .0), λ h. (h .1, h .0))
 pub says-bool : (t : Trace) (b : BoolExpr) → Says t (treeB b) (sat b)
 says-bool t btrue i n e = (λ h. tt, λ h. tt)
 says-bool t (var k) i n e = (λ h. rw e at h, λ h. rw e h)
-says-bool t (bnot b) i n e = not-iff (LtlHolds (treeB b) t i) (sat b n) (says-bool t b i n e)
-says-bool t (band b c) i n e = and-iff (LtlHolds (treeB b) t i) (LtlHolds (treeB c) t i) (sat b n) (sat c n) (says-bool t b i n e) (says-bool t c i n e)
+says-bool t (bnot b) i n e = not-iff (sat b n) (says-bool t b i n e)
+says-bool t (band b c) i n e = and-iff (sat b n) (sat c n) (says-bool t b i n e) (says-bool t c i n e)
 
 -- What an abort, and a weak or a strong Boolean, make of a, b and r.
 pub says-widen : (t : Trace) (b : BoolExpr) (x y : Ltl) (a r : Test) → Says t x a → Says t y r
     → Says t (lor x (land (treeB b) (lnot y))) (widen a r b)
 says-widen t b x y a r p q i n e =
-    or-iff (LtlHolds x t i) (LtlHolds (land (treeB b) (lnot y)) t i) (a n) (not (r n) && sat b n) (p i n e)
+    or-iff (a n) (not (r n) && sat b n) (p i n e)
     (Iff·trans (swap-iff (LtlHolds (treeB b) t i) (LtlHolds (lnot y) t i))
-    (and-iff (LtlHolds (lnot y) t i) (LtlHolds (treeB b) t i) (not (r n)) (sat b n) (not-iff (LtlHolds y t i) (r n) (q i n e)) (says-bool t b i n e)))
+    (and-iff (not (r n)) (sat b n) (not-iff (r n) (q i n e)) (says-bool t b i n e)))
 
 abbrev pub Apart : Test → Test → Type 0
 Apart a r = (n : ℕ) → T (a n) → T (r n) → ⊥
@@ -95,9 +95,6 @@ weak-at b a r t i n e = rw e (weak-slot b n (a n) (r n))
 
 strong-at : (b : BoolExpr) (a r : Test) (t : Trace) (i n : ℕ) → t i ≡ some n → Holds (strong b) (marked a r t i) ↔ T (widen a r b n)
 strong-at b a r t i n e = rw e (strong-slot b n (a n) (r n))
-
-pub flip-iff : (A B : Type 0) → A ↔ B → B ↔ A
-flip-iff A B e = (e .1, e .0)
 
 -- ── Inside and outside ──
 
@@ -241,9 +238,9 @@ pub keeps : (f : Formula) (t : Trace) → Searchable t → Gapless t → (x y : 
     → (i n : ℕ) → t i ≡ some n → Holds f (marked a r t i) ↔ LtlHolds (translated f x y) t i
 unfolding Agree
 keeps (weak b) t s o x y a r p q d i n e =
-    Iff·trans (weak-at b a r t i n e) (flip-iff (LtlHolds (translated (weak b) x y) t i) (T (widen a r b n)) (says-widen t b x y a r p q i n e))
+    Iff·trans (weak-at b a r t i n e) (Iff·symm (says-widen t b x y a r p q i n e))
 keeps (strong b) t s o x y a r p q d i n e =
-    Iff·trans (strong-at b a r t i n e) (flip-iff (LtlHolds (translated (strong b) x y) t i) (T (widen a r b n)) (says-widen t b x y a r p q i n e))
+    Iff·trans (strong-at b a r t i n e) (Iff·symm (says-widen t b x y a r p q i n e))
 keeps (fnot f) t s o x y a r p q d i n e =
     let ih = keeps f t s o y x r a q p (apart-swap a r d) i n e in
     let w : dual (marked a r t i) ≡ marked r a t i = fun-ext (λ k. dual-marked a r t d k i) in (
