@@ -1,1 +1,2 @@
 pub mod NodeLaw
+pub mod CheckLaw
