@@ -1,2 +1,3 @@
 pub mod OrderLaw
 pub mod KnownLaw
+pub mod CheckLaw

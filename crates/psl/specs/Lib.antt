@@ -2,3 +2,4 @@ pub mod Formula
 pub mod Meaning
 pub mod Table
 pub mod Known
+pub mod Check

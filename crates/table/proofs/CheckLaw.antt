@@ -16,6 +16,7 @@ use Rattle.table.specs.declared.Shape.{Shape}
 use Rattle.table.specs.declared.Numbers.{Numbers}
 use Rattle.table.specs.declared.Rules.{Rules}
 use Rattle.table.specs.declared.Checked.{Checked}
+use Rattle.table.specs.declared.Checked.the-variants.{Accepted, Refused}
 use Rattle.table.specs.Node.{Node, node}
 use Rattle.table.specs.Answer.{refused, checked}
 use Rattle.table.specs.Check.{count, kindAt, leftAt, rightAt, nodeAt, unusedFits, signalFits, operandFits, sortFits, allFit, lengthFits, known, mostKinds, shapeOf, unless, placesRefusal, nodeRefusal, isBoolean, refusalAt, orElse, lowest, tableRefusal}
@@ -39,6 +40,15 @@ unless-none false x o e = absurd (some-none e)
 pub or-none : (o p : Option Refusal) → orElse o p ≡ none → (o ≡ none) × (p ≡ none)
 or-none none p e = (refl, e)
 or-none (some x) p e = absurd (some-none e)
+
+-- The answer tells the refusal.
+pub accepted : (o : Option Refusal) (a : Checked) → a ≡ checked o → a ≡ Accepted → o ≡ none
+accepted none a e d = refl
+accepted (some x) a e d = let z : _≡_ {A = ℕ} 0 1 = cc in absurd (omega arith)
+
+pub was-refused : (o : Option Refusal) (a : Checked) (x : Refusal) → a ≡ checked o → a ≡ Refused x → o ≡ some x
+was-refused none a x e d = let z : _≡_ {A = ℕ} 0 1 = cc in absurd (omega arith)
+was-refused (some y) a x e d = cc
 
 -- ── A place ──
 

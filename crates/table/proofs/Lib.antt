@@ -1,2 +1,3 @@
 pub mod NodeLaw
 pub mod CheckLaw
+pub mod KindLaw

@@ -56,6 +56,10 @@ formula = operand false
 abbrev pub places : Place → Place → Shape
 places l r = record { 0 = l; 1 = r }
 
+-- Where a list of kinds has more room than kinds.
+abbrev pub spare : Shape
+spare = places unused unused
+
 -- ── The tests of a place that holds n ──
 
 -- An unused place, one with the limit 1, holds 0.
@@ -122,7 +126,7 @@ isBoolean R t i = ltb (kindAt t i) (R .booleans)
 unfoldable pub refusalAt : Rules → List ℕ → ℕ → Option Refusal
 refusalAt R t i = nodeRefusal R i (nodeAt t i) (isBoolean R t (leftAt t i)) (isBoolean R t (rightAt t i))
 
--- The first refusal of the numbers below n, and the sum over them.
+-- The first refusal of two, and the first of those for the numbers below n.
 abbrev pub orElse : Option Refusal → Option Refusal → Option Refusal
 orElse none o = o
 orElse (some x) o = some x
@@ -136,3 +140,10 @@ unfoldable pub tableRefusal : Rules → List ℕ → Option Refusal
 tableRefusal R t =
     unless (lengthFits (R .most) (length t)) (refused (R .numbers .length))
     (lowest (refusalAt R t) (count t))
+
+-- ── Sums ──
+
+-- The sum over the numbers below n.
+unfoldable pub total : (ℕ → ℕ) → ℕ → ℕ
+total f zero = 0
+total f (suc n) = total f n + f n

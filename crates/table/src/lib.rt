@@ -52,6 +52,9 @@ pub const FORMULA: Place = Place {
 // The left and the right place of a kind.
 pub struct Shape(pub Place, pub Place);
 
+// The shape of a number that is no kind.
+pub const SPARE: Shape = Shape(UNUSED, UNUSED);
+
 // The numbers of the refusals, each by what is wrong.
 pub struct Numbers {
     pub length: u8,
