@@ -4,3 +4,4 @@ pub mod EmptyLaw
 pub mod EndLaw
 pub mod PartLaw
 pub mod SoundLaw
+pub mod CheckLaw

@@ -1,7 +1,8 @@
 pub mod Formula
 pub mod Meaning
+pub mod Empty
 pub mod Table
 pub mod Parts
+pub mod Check
 pub mod Sound
 pub mod Known
-pub mod Empty

@@ -4,20 +4,20 @@ use mathlib.Core.Path.{_≡_}
 use mathlib.Core.List.{List, [], _∷_}
 use lib.ListN.{getD}
 use Rattle.trace.specs.Letter.{signals}
-use Rattle.table.specs.Node.{count, kindOf, leftOf, rightOf}
+use Rattle.table.specs.Node.{count, kindAt, leftAt, rightAt}
 
 -- Node j is below node i, and of the one sort or the other.
 abbrev pub Boolean : List ℕ → ℕ → ℕ → Type 0
-Boolean t i j = (j < i) × (kindOf t j < 4)
+Boolean t i j = (j < i) × (kindAt t j < 4)
 
 abbrev pub Formula : List ℕ → ℕ → ℕ → Type 0
-Formula t i j = (j < i) × (4 ≤ kindOf t j)
+Formula t i j = (j < i) × (4 ≤ kindAt t j)
 
 -- What the left and right number of node i are, kind by kind from 0 on.
 unfoldable pub operandsFit : List ℕ → ℕ → List (Type 0)
 operandsFit t i =
-    let l = leftOf t i in
-    let r = rightOf t i in
+    let l = leftAt t i in
+    let r = rightAt t i in
     ((l ≡ 0) × (r ≡ 0))
     ∷ ((l < signals) × (r ≡ 0))
     ∷ (Boolean t i l × (r ≡ 0))
@@ -36,4 +36,4 @@ abbrev pub FitsKind : List ℕ → ℕ → ℕ → Type 0
 FitsKind t i k = getD (operandsFit t i) k ⊥
 
 abbrev pub Sound : List ℕ → Type 0
-Sound t = (i : ℕ) → i < count t → FitsKind t i (kindOf t i)
+Sound t = (i : ℕ) → i < count t → FitsKind t i (kindAt t i)

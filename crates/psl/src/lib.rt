@@ -1,1 +1,118 @@
-// PSL tables. The definitions that contracts cite are in specs/.
+// PSL tables and their check.
+use table::BOOLEAN;
+use table::Checked;
+use table::FORMULA;
+use table::Numbers;
+use table::Place;
+use table::Rules;
+use table::SIGNAL;
+use table::Shape;
+use table::UNUSED;
+use trace::Refusal;
+ghost use mathlib.Core.Path.{_≡_};
+ghost use mathlib.Core.Option.{none};
+ghost use Rattle.table.specs.Answer.{checked};
+ghost use Rattle.table.specs.Node.{count};
+ghost use Rattle.table.specs.Check.{tableRefusal};
+ghost use Rattle.psl.specs.Check.{pslRules, one, treeRefusal, pslRefusal, Tallied};
+
+// The kinds, one a line: true, var; bnot, band; weak, strong; not, and; next, until; abort. The first four are Booleans.
+pub const PSL: Rules = Rules {
+    shapes: [
+        Shape(UNUSED, UNUSED),
+        Shape(SIGNAL, UNUSED),
+        Shape(BOOLEAN, UNUSED),
+        Shape(BOOLEAN, BOOLEAN),
+        Shape(BOOLEAN, UNUSED),
+        Shape(BOOLEAN, UNUSED),
+        Shape(FORMULA, UNUSED),
+        Shape(FORMULA, FORMULA),
+        Shape(FORMULA, UNUSED),
+        Shape(FORMULA, FORMULA),
+        Shape(FORMULA, BOOLEAN),
+    ],
+    kinds: 11,
+    booleans: 4,
+    most: 1024,
+    numbers: Numbers {
+        length: 1,
+        kind: 2,
+        unused: 3,
+        signal: 4,
+        operand: 5,
+        sort: 6,
+    },
+};
+
+// How often a place that holds some number names a node of that number.
+fn operands(p: Place) -> u16
+    ensures { λ r. ⌜ r ≡ one (p .operand) ⌝ }
+{
+    p.operand as u16
+}
+
+// How often each node is an operand, counted from nothing. A place that is no operand's adds 0 wherever it points.
+fn count_uses(t: &[u16], c: &mut [u16])
+    requires { ⌜ Tallied (now t) 0 (now c) ⌝ }
+    ensures { λ _. ⌜ Tallied (now (t .entry)) (count (now (t .entry))) (now (c .exit)) ⌝ }
+{
+    let rules = PSL;
+    let n = t.len() / 3;
+    let mut i: usize = 0;
+    while i < n {
+        let k = t[3 * i] as usize;
+        let l = t[3 * i + 1] as usize;
+        let r = t[3 * i + 2] as usize;
+        let h = rules.shapes[k];
+        let p = h.0;
+        let q = h.1;
+        c[l] += operands(p);
+        c[r] += operands(q);
+        i += 1;
+    }
+}
+
+// Every node but the last is an operand once, and the last is a formula; the counts are kept in c.
+fn check_uses(t: &[u16], c: &mut [u16]) -> Checked
+    requires { ⌜ Tallied (now t) 0 (now c) ⌝ }
+    ensures { λ r. ⌜ r ≡ checked (treeRefusal (now (t .entry))) ⌝ }
+{
+    count_uses(t, &mut *c);
+    let last = t.len() / 3 - 1;
+    let mut j: usize = 0;
+    while j < last {
+        if c[j] != 1 {
+            return Checked::Refused(Refusal(7));
+        }
+        j += 1;
+    }
+    if t[3 * last] < PSL.booleans {
+        return Checked::Refused(Refusal(8));
+    }
+    Checked::Accepted
+}
+
+// A small table has a small list of counts: it is cleared at each check.
+fn check_tree(t: &[u16]) -> Checked
+    requires { ⌜ tableRefusal pslRules (now t) ≡ none ⌝ }
+    ensures { λ r. ⌜ r ≡ checked (treeRefusal (now (t .entry))) ⌝ }
+{
+    if t.len() <= 384 {
+        let mut c = [0u16; 128];
+        check_uses(t, &mut c[..])
+    } else {
+        let mut c = [0u16; 1024];
+        check_uses(t, &mut c[..])
+    }
+}
+
+// Refusals 1 to 8.
+pub fn check_psl(t: &[u16]) -> Checked
+    ensures { λ r. ⌜ r ≡ checked (pslRefusal (now (t .entry))) ⌝ }
+{
+    let x = table::check_table(PSL, t);
+    match x {
+        Checked::Accepted => check_tree(t),
+        Checked::Refused(e) => Checked::Refused(e),
+    }
+}

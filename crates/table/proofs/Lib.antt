@@ -1,2 +1,4 @@
 pub mod NodeLaw
+pub mod ClaimLaw
+pub mod CheckLaw
 pub mod KindLaw

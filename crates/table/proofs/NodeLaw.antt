@@ -5,7 +5,7 @@ use mathlib.Core.List.{List, [], _∷_, _++_}
 use native.Mathlib.Omega.{arith}
 use lib.ListN.{length, getD, take, drop, take-append-drop, length-take, length-append, List·getD-append}
 use lib.Seq.{getD-at}
-use Rattle.table.specs.Node.{Node, node, nodesOf, numbersOf, count, kindOf, leftOf, rightOf, _▸_, last, look, grow, values, root, valueAt}
+use Rattle.table.specs.Node.{Node, node, nodesOf, numbersOf, count, kindAt, leftAt, rightAt, _▸_, last, look, grow, values, root, valueAt}
 
 -- ── Numbers and nodes ──
 
@@ -24,7 +24,7 @@ length-nodes (k ∷ l ∷ []) = refl
 length-nodes (k ∷ l ∷ r ∷ t) = omega (arith, length-nodes t)
 
 -- Node i of a list of numbers.
-pub node-at : (t : List ℕ) (i : ℕ) → 3 * i + 3 ≤ length t → getD (nodesOf t) i (node 0 0 0) ≡ node (kindOf t i) (leftOf t i) (rightOf t i)
+pub node-at : (t : List ℕ) (i : ℕ) → 3 * i + 3 ≤ length t → getD (nodesOf t) i (node 0 0 0) ≡ node (kindAt t i) (leftAt t i) (rightAt t i)
 node-at [] i h = absurd (omega arith)
 node-at (k ∷ []) i h = absurd (omega arith)
 node-at (k ∷ l ∷ []) i h = absurd (omega arith)
@@ -34,8 +34,8 @@ node-at (k ∷ l ∷ r ∷ t) (suc i) h = node-at t i (omega arith) ∙ same
     past : (j m : ℕ) → m ≡ suc (suc (suc j)) → getD t j 0 ≡ getD (k ∷ l ∷ r ∷ t) m 0
     past j m e = sym (ap (λ (n : ℕ). getD (k ∷ l ∷ r ∷ t) n 0) e)
 
-    same : node (kindOf t i) (leftOf t i) (rightOf t i)
-        ≡ node (kindOf (k ∷ l ∷ r ∷ t) (suc i)) (leftOf (k ∷ l ∷ r ∷ t) (suc i)) (rightOf (k ∷ l ∷ r ∷ t) (suc i))
+    same : node (kindAt t i) (leftAt t i) (rightAt t i)
+        ≡ node (kindAt (k ∷ l ∷ r ∷ t) (suc i)) (leftAt (k ∷ l ∷ r ∷ t) (suc i)) (rightAt (k ∷ l ∷ r ∷ t) (suc i))
     same =
         cc (past (3 * i) (3 * suc i) (omega arith), past (3 * i + 1) (3 * suc i + 1) (omega arith), past (3 * i + 2) (3 * suc i + 2) (omega arith))
 
@@ -93,7 +93,7 @@ module _ {A : Type 0} (d : A) (make : (ℕ → A) → Node → A) where
 
   -- Node i's value, by values x that agree with the table's below i.
   pub value-by : (t : List ℕ) (i : ℕ) → 3 * i + 3 ≤ length t
-      → (x : ℕ → A) × (valueAt d make t i ≡ make x (node (kindOf t i) (leftOf t i) (rightOf t i))) × ((j : ℕ) → j < i → x j ≡ valueAt d make t j)
+      → (x : ℕ → A) × (valueAt d make t i ≡ make x (node (kindAt t i) (leftAt t i) (rightAt t i))) × ((j : ℕ) → j < i → x j ≡ valueAt d make t j)
   value-by t i h =
       let l = length-nodes t in
       let ns = nodesOf t in (

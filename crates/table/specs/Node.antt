@@ -23,14 +23,17 @@ numbersOf (node k l r ∷ ns) = k ∷ l ∷ r ∷ numbersOf ns
 abbrev pub count : List ℕ → ℕ
 count t = length t / 3
 
-abbrev pub kindOf : List ℕ → ℕ → ℕ
-kindOf t i = getD t (3 * i) 0
+abbrev pub kindAt : List ℕ → ℕ → ℕ
+kindAt t i = getD t (3 * i) 0
 
-abbrev pub leftOf : List ℕ → ℕ → ℕ
-leftOf t i = getD t (3 * i + 1) 0
+abbrev pub leftAt : List ℕ → ℕ → ℕ
+leftAt t i = getD t (3 * i + 1) 0
 
-abbrev pub rightOf : List ℕ → ℕ → ℕ
-rightOf t i = getD t (3 * i + 2) 0
+abbrev pub rightAt : List ℕ → ℕ → ℕ
+rightAt t i = getD t (3 * i + 2) 0
+
+abbrev pub nodeAt : List ℕ → ℕ → Node
+nodeAt t i = node (kindAt t i) (leftAt t i) (rightAt t i)
 
 -- A list with one more at its end, which has the number `last`.
 infixl 20 _▸_

@@ -1,4 +1,220 @@
 // Tables of triples: what PSL and LTL tables share.
+use trace::Refusal;
+ghost use mathlib.Core.Path.{_≡_};
+ghost use mathlib.Core.Bool.{cond, _&&_};
+ghost use mathlib.Core.Option.{Option};
+ghost use Prim.Native.Nat.{_<_};
+ghost use Rattle.trace.specs.declared.Refusal.{Refusal};
+ghost use Rattle.table.specs.Node.{node, kindAt};
+ghost use Rattle.table.specs.Answer.{refused, checked};
+ghost use Rattle.table.specs.Check.{lengthFits, unusedFits, signalFits, operandFits, sortFits, allFit, unless, placesRefusal, nodeRefusal, tableRefusal};
 
 // The number of a node, counted from 0 along a table: never a point of time.
 pub struct NodeNo(pub u16);
+
+// How many signals there are.
+pub const SIGNALS: u16 = 32;
+
+// How many kinds a table can have.
+pub const KINDS: u16 = 11;
+
+// What a place of a node holds: the number of an operand, Boolean or not, or else a number below the limit.
+pub struct Place {
+    pub operand: bool,
+    pub boolean: bool,
+    pub limit: u16,
+}
+
+pub const UNUSED: Place = Place {
+    operand: false,
+    boolean: false,
+    limit: 1,
+};
+
+pub const SIGNAL: Place = Place {
+    operand: false,
+    boolean: false,
+    limit: SIGNALS,
+};
+
+pub const BOOLEAN: Place = Place {
+    operand: true,
+    boolean: true,
+    limit: 0,
+};
+
+pub const FORMULA: Place = Place {
+    operand: true,
+    boolean: false,
+    limit: 0,
+};
+
+// The left and the right place of a kind.
+pub struct Shape(pub Place, pub Place);
+
+// The shape of a number that is no kind.
+pub const SPARE: Shape = Shape(UNUSED, UNUSED);
+
+// The numbers of the refusals, each by what is wrong.
+pub struct Numbers {
+    pub length: u8,
+    pub kind: u8,
+    pub unused: u8,
+    pub signal: u8,
+    pub operand: u8,
+    pub sort: u8,
+}
+
+// The rules of a table: the shapes of its kinds, how many kinds there are, how many of them, the first, are Booleans, and the most nodes.
+pub struct Rules {
+    pub shapes: [Shape; 11],
+    pub kinds: u16,
+    pub booleans: u16,
+    pub most: u16,
+    pub numbers: Numbers,
+}
+
+pub enum Checked {
+    Accepted,
+    Refused(Refusal),
+}
+
+// A table of n numbers has a right count of nodes. (A caller that took `most` from a struct does not know its range otherwise.)
+fn length_fits(most: u16, n: usize) -> bool
+    ensures { λ r. ⌜ (r ≡ lengthFits most n) × (most < 65536) ⌝ }
+{
+    (n % 3 == 0) & (0 < n / 3) & (n / 3 <= most as usize)
+}
+
+fn unused_fits(p: Place, n: u16) -> bool
+    ensures { λ r. ⌜ r ≡ unusedFits p n ⌝ }
+{
+    p.operand | (p.limit != 1) | (n == 0)
+}
+
+fn signal_fits(p: Place, n: u16) -> bool
+    ensures { λ r. ⌜ r ≡ signalFits p n ⌝ }
+{
+    p.operand | (n < p.limit)
+}
+
+fn operand_fits(p: Place, n: u16, i: u16) -> bool
+    ensures { λ r. ⌜ r ≡ operandFits p n i ⌝ }
+{
+    !p.operand | (n < i)
+}
+
+fn sort_fits(p: Place, b: bool) -> bool
+    ensures { λ r. ⌜ r ≡ sortFits p b ⌝ }
+{
+    !p.operand | (b == p.boolean)
+}
+
+// What a place of node i holds is below this.
+fn bound(p: Place, i: u16) -> u16
+    ensures { λ r. ⌜ r ≡ cond (p .operand) i (p .limit) ⌝ }
+{
+    if p.operand { i } else { p.limit }
+}
+
+// All four tests at once.
+fn place_fits(p: Place, n: u16, i: u16, b: bool) -> bool
+    ensures { λ r. ⌜ r ≡ allFit p n i b ⌝ }
+{
+    (n < bound(p, i)) & sort_fits(p, b)
+}
+
+fn places_fit(h: Shape, i: u16, l: u16, r: u16, lb: bool, rb: bool) -> bool
+    ensures { λ x. ⌜ x ≡ (allFit (h .0) l i lb && allFit (h .1) r i rb) ⌝ }
+{
+    let p = h.0;
+    let q = h.1;
+    place_fits(p, l, i, lb) & place_fits(q, r, i, rb)
+}
+
+// The kind of a node, 0 past the last.
+fn kind_at(t: &[u16], n: u16) -> u16
+    ensures { λ r. ⌜ r ≡ kindAt (now (t .entry)) n ⌝ }
+{
+    let at = 3 * n as usize;
+    if at < t.len() { t[at] } else { 0 }
+}
+
+// The refusal of that number unless a test was passed, then what the later tests answer.
+fn unless(passed: bool, number: u8, later: Checked) -> Checked
+    ensures { λ x. ⌜ ((o : Option Refusal) → later ≡ checked o → x ≡ checked (unless passed (refused number) o)) ⌝ }
+{
+    if passed {
+        later
+    } else {
+        Checked::Refused(Refusal(number))
+    }
+}
+
+// The places of node i, its operands being Booleans if lb and rb.
+fn check_places(x: Numbers, h: Shape, i: u16, l: u16, r: u16, lb: bool, rb: bool) -> Checked
+    ensures { λ a. ⌜ a ≡ checked (placesRefusal x h i l r lb rb) ⌝ }
+{
+    let p = h.0;
+    let q = h.1;
+    unless(
+        unused_fits(p, l) & unused_fits(q, r),
+        x.unused,
+        unless(
+            signal_fits(p, l) & signal_fits(q, r),
+            x.signal,
+            unless(
+                operand_fits(p, l, i) & operand_fits(q, r, i),
+                x.operand,
+                unless(
+                    sort_fits(p, lb) & sort_fits(q, rb),
+                    x.sort,
+                    Checked::Accepted,
+                ),
+            ),
+        ),
+    )
+}
+
+// Node i, its operands being Booleans if lb and rb.
+pub fn check_node(rules: Rules, i: NodeNo, k: u16, l: u16, r: u16, lb: bool, rb: bool) -> Checked
+    ensures { λ a. ⌜ a ≡ checked (nodeRefusal rules (i .0) (node k l r) lb rb) ⌝ }
+{
+    let x = rules.numbers;
+    if !((k < rules.kinds) & (k < KINDS)) {
+        return Checked::Refused(Refusal(x.kind));
+    }
+    let at = k as usize;
+    let h = rules.shapes[at];
+    check_places(x, h, i.0, l, r, lb, rb)
+}
+
+// The check that both tables share.
+pub fn check_table(rules: Rules, t: &[u16]) -> Checked
+    ensures { λ x. ⌜ x ≡ checked (tableRefusal rules (now (t .entry))) ⌝ }
+{
+    if !length_fits(rules.most, t.len()) {
+        let x = rules.numbers;
+        return Checked::Refused(Refusal(x.length));
+    }
+    let n = t.len() / 3;
+    let mut i: usize = 0;
+    while i < n {
+        let k = t[3 * i];
+        let l = t[3 * i + 1];
+        let r = t[3 * i + 2];
+        let lb = kind_at(t, l) < rules.booleans;
+        let rb = kind_at(t, r) < rules.booleans;
+        let own = i as u16;
+        if !((k < rules.kinds) & (k < KINDS)) {
+            return check_node(rules, NodeNo(own), k, l, r, lb, rb);
+        }
+        let at = k as usize;
+        let h = rules.shapes[at];
+        if !places_fit(h, own, l, r, lb, rb) {
+            return check_node(rules, NodeNo(own), k, l, r, lb, rb);
+        }
+        i += 1;
+    }
+    Checked::Accepted
+}

@@ -6,7 +6,7 @@ use mathlib.Core.Bool.{cond}
 use native.Mathlib.Omega.{arith}
 use lib.Dec.{eqb}
 use native.Mathlib.Decide.{decLt}
-use Rattle.table.specs.Node.{Node, node, _▸_, count, kindOf, leftOf, rightOf}
+use Rattle.table.specs.Node.{Node, node, _▸_, count, kindAt, leftAt, rightAt}
 use Rattle.psl.specs.Formula.{BoolExpr, btrue, var, bnot, band, Formula, weak, strong, fnot, fand, next, until, abort, weighB, weigh}
 use Rattle.psl.specs.Parts.{booleanAt, formulaAt}
 use Rattle.psl.specs.Sound.{Boolean, Formula as IsFormula, Sound}
@@ -117,13 +117,13 @@ pub arm-literal : (b : BoolExpr) (a r : ℕ) {n m p : ℕ} {old mid now : List �
 arm-literal b a r w v = walks-then (λ i. gate i a r) refl w v
 
 -- The left operand of a bnot or a band, and that its nodes are fewer.
-pub left-boolean : (t : List ℕ) → Sound t → (i : ℕ) → i < count t → (kindOf t i ≡ 0 → ⊥) → (kindOf t i ≡ 1 → ⊥) → kindOf t i < 4
-    → Boolean t i (leftOf t i) × (weighB adds (booleanAt t (leftOf t i)) + 1 ≤ weighB adds (booleanAt t i))
-left-boolean t s i h n0 n1 u = go (decLt (kindOf t i) 3)
+pub left-boolean : (t : List ℕ) → Sound t → (i : ℕ) → i < count t → (kindAt t i ≡ 0 → ⊥) → (kindAt t i ≡ 1 → ⊥) → kindAt t i < 4
+    → Boolean t i (leftAt t i) × (weighB adds (booleanAt t (leftAt t i)) + 1 ≤ weighB adds (booleanAt t i))
+left-boolean t s i h n0 n1 u = go (decLt (kindAt t i) 3)
   where
-    go : Dec (kindOf t i < 3) → Boolean t i (leftOf t i) × (weighB adds (booleanAt t (leftOf t i)) + 1 ≤ weighB adds (booleanAt t i))
+    go : Dec (kindAt t i < 3) → Boolean t i (leftAt t i) × (weighB adds (booleanAt t (leftAt t i)) + 1 ≤ weighB adds (booleanAt t i))
     go (yes d) = let b = is-bnot t s i h (omega arith) in (b .0, omega (arith, weight-bnot (b .1)))
-    go (no d) = let b = is-band t s i h (omega arith) in (b .0, omega (arith, weight-band (b .2), weightB-pos (booleanAt t (rightOf t i))))
+    go (no d) = let b = is-band t s i h (omega arith) in (b .0, omega (arith, weight-band (b .2), weightB-pos (booleanAt t (rightAt t i))))
 
 -- ── Formulas ──
 
@@ -174,15 +174,15 @@ arm-abort a r {f} {g} e w v = as-formula a r e (walks-then (λ i. walk g i r) (w
 
 -- A weak or a strong node.
 pub record Literal (t : List ℕ) (i : ℕ) : Type 0 where
-  pub operand : Boolean t i (leftOf t i)
-  pub weight : weigh adds (formulaAt t i) ≡ weighB adds (booleanAt t (leftOf t i)) + 3
-  pub arm : (a r : ℕ) {n m : ℕ} {old now : List ℕ} → Walks (weighB adds (booleanAt t (leftOf t i)) + 3) (literal (booleanAt t (leftOf t i)) a r) n m old now
+  pub operand : Boolean t i (leftAt t i)
+  pub weight : weigh adds (formulaAt t i) ≡ weighB adds (booleanAt t (leftAt t i)) + 3
+  pub arm : (a r : ℕ) {n m : ℕ} {old now : List ℕ} → Walks (weighB adds (booleanAt t (leftAt t i)) + 3) (literal (booleanAt t (leftAt t i)) a r) n m old now
       → WalksF (formulaAt t i) a r n m old now
 
-pub literal-node : (t : List ℕ) → Sound t → (i : ℕ) → i < count t → 4 ≤ kindOf t i → kindOf t i < 6 → Literal t i
-literal-node t s i h lo hi = go (decLt (kindOf t i) 5)
+pub literal-node : (t : List ℕ) → Sound t → (i : ℕ) → i < count t → 4 ≤ kindAt t i → kindAt t i < 6 → Literal t i
+literal-node t s i h lo hi = go (decLt (kindAt t i) 5)
   where
-    go : Dec (kindOf t i < 5) → Literal t i
+    go : Dec (kindAt t i < 5) → Literal t i
     go (yes d) =
         let b = is-weak t s i h (omega arith) in
         record { operand = b .0; weight = weight-weak (b .1); arm = λ a r w. arm-weak a r (b .1) w }
@@ -192,22 +192,22 @@ literal-node t s i h lo hi = go (decLt (kindOf t i) 5)
 
 -- An and or an until node.
 pub record Joined (t : List ℕ) (i : ℕ) : Type 0 where
-  pub left : IsFormula t i (leftOf t i)
-  pub right : IsFormula t i (rightOf t i)
-  pub weight : weigh adds (formulaAt t i) ≡ weigh adds (formulaAt t (leftOf t i)) + weigh adds (formulaAt t (rightOf t i)) + 1
-  pub arm : (a r : ℕ) {n m p q k : ℕ} {old mid mid′ now : List ℕ} → k ≡ cond (eqb (kindOf t i) 9) 6 3 → WalksF (formulaAt t (leftOf t i)) a r n m old mid
-      → WalksF (formulaAt t (rightOf t i)) a r m p mid mid′ → Node1 k (m - 1) (p - 1) p q mid′ now → WalksF (formulaAt t i) a r n q old now
+  pub left : IsFormula t i (leftAt t i)
+  pub right : IsFormula t i (rightAt t i)
+  pub weight : weigh adds (formulaAt t i) ≡ weigh adds (formulaAt t (leftAt t i)) + weigh adds (formulaAt t (rightAt t i)) + 1
+  pub arm : (a r : ℕ) {n m p q k : ℕ} {old mid mid′ now : List ℕ} → k ≡ cond (eqb (kindAt t i) 9) 6 3 → WalksF (formulaAt t (leftAt t i)) a r n m old mid
+      → WalksF (formulaAt t (rightAt t i)) a r m p mid mid′ → Node1 k (m - 1) (p - 1) p q mid′ now → WalksF (formulaAt t i) a r n q old now
 
-pub joined-node : (t : List ℕ) → Sound t → (i : ℕ) → i < count t → 6 ≤ kindOf t i → (kindOf t i ≡ 6 → ⊥) → (kindOf t i ≡ 8 → ⊥)
-    → (kindOf t i ≡ 10 → ⊥) → Joined t i
-joined-node t s i h lo n6 n8 n10 = go (decLt (kindOf t i) 8)
+pub joined-node : (t : List ℕ) → Sound t → (i : ℕ) → i < count t → 6 ≤ kindAt t i → (kindAt t i ≡ 6 → ⊥) → (kindAt t i ≡ 8 → ⊥)
+    → (kindAt t i ≡ 10 → ⊥) → Joined t i
+joined-node t s i h lo n6 n8 n10 = go (decLt (kindAt t i) 8)
   where
-    known : kindOf t i < 11
+    known : kindAt t i < 11
     known = kind-known t s i h
 
-    go : Dec (kindOf t i < 8) → Joined t i
+    go : Dec (kindAt t i < 8) → Joined t i
     go (yes d) =
-        let e : kindOf t i ≡ 7 = omega arith in
+        let e : kindAt t i ≡ 7 = omega arith in
         let f = is-and t s i h e in
         record {
           left = f .0;
@@ -217,7 +217,7 @@ joined-node t s i h lo n6 n8 n10 = go (decLt (kindOf t i) 8)
               arm-and a r (f .2) w v (subst (λ (j : ℕ). Node1 j (m - 1) (p - 1) p q mid′ now) (z ∙ ap (λ (j : ℕ). cond (eqb j 9) 6 3) e) u);
         }
     go (no d) =
-        let e : kindOf t i ≡ 9 = omega (arith, known) in
+        let e : kindAt t i ≡ 9 = omega (arith, known) in
         let f = is-until t s i h e in
         record {
           left = f .0;

@@ -5,7 +5,7 @@ use mathlib.Core.List.{List}
 use Prim.Native.Nat.{ℕ, zero, suc, _≤_, _<_}
 use native.Mathlib.Omega.{arith}
 use native.Mathlib.Decide.{decLt}
-use Rattle.table.specs.Node.{count, kindOf, leftOf}
+use Rattle.table.specs.Node.{count, kindAt, leftAt}
 use Rattle.psl.specs.Formula.{BoolExpr, Formula, weak, strong, fnot, fand, next, until, abort}
 use Rattle.psl.specs.Parts.{booleanAt, formulaAt}
 use Rattle.psl.specs.Sound.{Boolean, Sound}
@@ -23,14 +23,14 @@ pub as-formula : {lead loop : List ℕ} {a r w : ℕ} {f g : Formula} → f ≡ 
 as-formula {lead} {loop} {a} {r} {w} e h = subst (λ (d : Formula). TellsFormula lead loop d a r w) (sym e) h
 
 -- A weak or a strong node, by its Boolean's row and the gate.
-pub tells-literal : (t : List ℕ) → Sound t → (i : ℕ) → i < count t → 4 ≤ kindOf t i → kindOf t i < 6
-    → Boolean t i (leftOf t i) × ((lead loop : List ℕ) (a r w : ℕ)
-    → ((x y : Ltl) → Tells lead loop a x → Tells lead loop r y → Tells lead loop w (lor x (land (treeB (booleanAt t (leftOf t i))) (lnot y))))
+pub tells-literal : (t : List ℕ) → Sound t → (i : ℕ) → i < count t → 4 ≤ kindAt t i → kindAt t i < 6
+    → Boolean t i (leftAt t i) × ((lead loop : List ℕ) (a r w : ℕ)
+    → ((x y : Ltl) → Tells lead loop a x → Tells lead loop r y → Tells lead loop w (lor x (land (treeB (booleanAt t (leftAt t i))) (lnot y))))
     → TellsFormula lead loop (formulaAt t i) a r w)
-tells-literal t s i h lo hi = go (decLt (kindOf t i) 5)
+tells-literal t s i h lo hi = go (decLt (kindAt t i) 5)
   where
-    go : Dec (kindOf t i < 5) → Boolean t i (leftOf t i) × ((lead loop : List ℕ) (a r w : ℕ)
-        → ((x y : Ltl) → Tells lead loop a x → Tells lead loop r y → Tells lead loop w (lor x (land (treeB (booleanAt t (leftOf t i))) (lnot y))))
+    go : Dec (kindAt t i < 5) → Boolean t i (leftAt t i) × ((lead loop : List ℕ) (a r w : ℕ)
+        → ((x y : Ltl) → Tells lead loop a x → Tells lead loop r y → Tells lead loop w (lor x (land (treeB (booleanAt t (leftAt t i))) (lnot y))))
         → TellsFormula lead loop (formulaAt t i) a r w)
     go (yes d) = let b = is-weak t s i h (omega arith) in (b .0, λ lead loop a r w g. as-formula (b .1) g)
     go (no d) = let b = is-strong t s i h (omega arith) in (b .0, λ lead loop a r w g. as-formula (b .1) g)
@@ -57,15 +57,15 @@ unfolding onEmpty
 empty-abort e h = empty-as e h
 
 -- A strong, a next and an until fail.
-pub empty-rest : (t : List ℕ) → Sound t → (i : ℕ) → i < count t → 4 ≤ kindOf t i → (kindOf t i ≡ 4 → ⊥) → (kindOf t i ≡ 6 → ⊥)
-    → (kindOf t i ≡ 7 → ⊥) → (kindOf t i ≡ 10 → ⊥) → false ≡ onEmpty (formulaAt t i)
+pub empty-rest : (t : List ℕ) → Sound t → (i : ℕ) → i < count t → 4 ≤ kindAt t i → (kindAt t i ≡ 4 → ⊥) → (kindAt t i ≡ 6 → ⊥)
+    → (kindAt t i ≡ 7 → ⊥) → (kindAt t i ≡ 10 → ⊥) → false ≡ onEmpty (formulaAt t i)
 unfolding onEmpty
-empty-rest t s i h lo n4 n6 n7 n10 = go (kindOf t i) refl
+empty-rest t s i h lo n4 n6 n7 n10 = go (kindAt t i) refl
   where
-    known : kindOf t i < 11
+    known : kindAt t i < 11
     known = kind-known t s i h
 
-    go : (k : ℕ) → kindOf t i ≡ k → false ≡ onEmpty (formulaAt t i)
+    go : (k : ℕ) → kindAt t i ≡ k → false ≡ onEmpty (formulaAt t i)
     go zero e = absurd (omega arith)
     go (suc zero) e = absurd (omega arith)
     go (suc (suc zero)) e = absurd (omega arith)

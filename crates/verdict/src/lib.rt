@@ -6,7 +6,7 @@ ghost use lib.Dec.{T};
 ghost use lib.ListN.{length, getD};
 ghost use Rattle.trace.specs.Letter.{signals, mostLetters};
 ghost use Rattle.trace.specs.Moments.{size};
-ghost use Rattle.table.specs.Node.{count, kindOf};
+ghost use Rattle.table.specs.Node.{count, kindAt};
 ghost use Rattle.psl.specs.Meaning.{HoldsOn};
 ghost use Rattle.psl.specs.Table.{formulaOf};
 ghost use Rattle.psl.specs.Parts.{booleanAt, formulaAt};
@@ -25,7 +25,7 @@ use trace::Letter;
 
 // The row of a Boolean.
 fn boolean_row(t: &[u16], i: NodeNo, lead: &[Letter], cycle: &[Letter]) -> Row
-    requires { ⌜ Sound (now t) × (i .0 < count (now t)) × (kindOf (now t) (i .0) < 4) × Few (now lead) (now cycle) ⌝ }
+    requires { ⌜ Sound (now t) × (i .0 < count (now t)) × (kindAt (now t) (i .0) < 4) × Few (now lead) (now cycle) ⌝ }
     ensures { λ w. ⌜ Tells (now (lead .entry)) (now (cycle .entry)) w (treeB (booleanAt (now (t .entry)) (i .0))) ⌝ }
 {
     let at = 3 * (i.0 as usize);
@@ -42,7 +42,7 @@ fn boolean_row(t: &[u16], i: NodeNo, lead: &[Letter], cycle: &[Letter]) -> Row
 
 // The row of a formula's translation, by the rows of accept and reject.
 fn formula_row(t: &[u16], i: NodeNo, a: Row, r: Row, lead: &[Letter], cycle: &[Letter]) -> Row
-    requires { ⌜ Sound (now t) × (i .0 < count (now t)) × (4 ≤ kindOf (now t) (i .0)) × Few (now lead) (now cycle) ⌝ }
+    requires { ⌜ Sound (now t) × (i .0 < count (now t)) × (4 ≤ kindAt (now t) (i .0)) × Few (now lead) (now cycle) ⌝ }
     ensures { λ w. ⌜ TellsFormula (now (lead .entry)) (now (cycle .entry)) (formulaAt (now (t .entry)) (i .0)) a r w ⌝ }
 {
     let at = 3 * (i.0 as usize);
@@ -75,7 +75,7 @@ fn formula_row(t: &[u16], i: NodeNo, a: Row, r: Row, lead: &[Letter], cycle: &[L
 
 // A formula on the empty trace.
 fn on_empty(t: &[u16], i: NodeNo) -> bool
-    requires { ⌜ Sound (now t) × (i .0 < count (now t)) × (4 ≤ kindOf (now t) (i .0)) ⌝ }
+    requires { ⌜ Sound (now t) × (i .0 < count (now t)) × (4 ≤ kindAt (now t) (i .0)) ⌝ }
     ensures { λ b. ⌜ b ≡ onEmpty (formulaAt (now (t .entry)) (i .0)) ⌝ }
 {
     let at = 3 * (i.0 as usize);
@@ -127,7 +127,7 @@ pub fn ltl_holds(t: &[u16], lead: &[Letter], cycle: &[Letter]) -> bool
 
 // Whether an accepted PSL table holds on a trace: the translation's row, with nothing accepted or rejected yet.
 pub fn psl_holds(t: &[u16], lead: &[Letter], cycle: &[Letter]) -> bool
-    requires { ⌜ Sound (now t) × (0 < count (now t)) × (count (now t) ≤ 1024) × (4 ≤ kindOf (now t) (count (now t) - 1)) × (size (now lead) (now cycle) ≤ mostLetters) ⌝ }
+    requires { ⌜ Sound (now t) × (0 < count (now t)) × (count (now t) ≤ 1024) × (4 ≤ kindAt (now t) (count (now t) - 1)) × (size (now lead) (now cycle) ≤ mostLetters) ⌝ }
     ensures { λ b. ⌜ HoldsOn (formulaOf (now (t .entry))) (now (lead .entry)) (now (cycle .entry)) ↔ T b ⌝ }
 {
     let root = NodeNo((t.len() / 3 - 1) as u16);

@@ -3,7 +3,7 @@ use borrow.Author.Needs.{needs}
 use native.Mathlib.Omega.{arith}
 use mathlib.Core.Path.{_≡_}
 use Prim.Native.Nat.{ℕ, _<_}
-use Rattle.table.specs.Node.{kindOf, leftOf, rightOf}
+use Rattle.table.specs.Node.{kindAt, leftAt, rightAt}
 use Rattle.psl.specs.Parts.{booleanAt}
 use Rattle.psl.proofs.SoundLaw.{is-true, is-var, is-bnot, is-band}
 use Rattle.translate.proofs.ArmLaw.{weight-true, weight-var, weight-bnot, weight-band, weightB-pos, left-boolean, arm-true, arm-var, arm-bnot, arm-band}
@@ -104,11 +104,11 @@ walk-boolean-walk-boolean-requires t c κs = let E = c .before in let S = E .bef
 
 -- src/lib.rt:53:34
 walk-boolean-sub-append : (t : ℕ) → walk-boolean-lts.Need-sub-append (claims t) (walk-boolean-at t) walk-boolean.Post
-walk-boolean-sub-append t c = let th = c .before .before in let W = th .before .before .before in let E = W .before .before in let S = E .before .before in let st = S .before .before .before .before .before .before in let T = st .args .t .now in let i = st .args .i .0 in let P = st .pre .1 in let L = left-boolean T (P .0) i (P .1) (E .before .if1 .left) (E .if2 .left) (P .2) in let pos = weightB-pos (booleanAt T (leftOf T i)) in omega (arith, W .walk-boolean .ensures .next, pos)
+walk-boolean-sub-append t c = let th = c .before .before in let W = th .before .before .before in let E = W .before .before in let S = E .before .before in let st = S .before .before .before .before .before .before in let T = st .args .t .now in let i = st .args .i .0 in let P = st .pre .1 in let L = left-boolean T (P .0) i (P .1) (E .before .if1 .left) (E .if2 .left) (P .2) in let pos = weightB-pos (booleanAt T (leftAt T i)) in omega (arith, W .walk-boolean .ensures .next, pos)
 
 -- src/lib.rt:53:9
 walk-boolean-append-requires-3 : (t : ℕ) → walk-boolean-lts.Need-append-requires-3 (claims t) (walk-boolean-at t) walk-boolean.Post
-walk-boolean-append-requires-3 t c κs = let th = c .before .before in let W = th .before .before .before in let E = W .before .before in let S = E .before .before in let st = S .before .before .before .before .before .before in let T = st .args .t .now in let i = st .args .i .0 in let P = st .pre .1 in let L = left-boolean T (P .0) i (P .1) (E .before .if1 .left) (E .if2 .left) (P .2) in let pos = weightB-pos (booleanAt T (leftOf T i)) in let w = weight-bnot (is-bnot T (P .0) i (P .1) (th .if3 .taken) .1) in record { space = omega (arith, w, P .3 .space, W .walk-boolean .ensures .next); fits = omega (arith, w, P .3 .fits, W .walk-boolean .ensures .next) }
+walk-boolean-append-requires-3 t c κs = let th = c .before .before in let W = th .before .before .before in let E = W .before .before in let S = E .before .before in let st = S .before .before .before .before .before .before in let T = st .args .t .now in let i = st .args .i .0 in let P = st .pre .1 in let L = left-boolean T (P .0) i (P .1) (E .before .if1 .left) (E .if2 .left) (P .2) in let pos = weightB-pos (booleanAt T (leftAt T i)) in let w = weight-bnot (is-bnot T (P .0) i (P .1) (th .if3 .taken) .1) in record { space = omega (arith, w, P .3 .space, W .walk-boolean .ensures .next); fits = omega (arith, w, P .3 .fits, W .walk-boolean .ensures .next) }
 
 -- src/lib.rt:53:9
 walk-boolean-same-length-3 : (t : ℕ) → walk-boolean-lts.Need-same-length-3 (claims t) (walk-boolean-at t) walk-boolean.Post
@@ -116,23 +116,23 @@ walk-boolean-same-length-3 t c = search needs
 
 -- src/lib.rt:53:9
 walk-boolean-returns-3 : (t : ℕ) → walk-boolean-lts.Need-returns-3 (claims t) (walk-boolean-at t) walk-boolean.Post
-walk-boolean-returns-3 t c = let A = c .before .before in let th = A .before .before .before in let W = th .before .before .before in let E = W .before .before in let S = E .before .before in let st = S .before .before .before .before .before .before in let T = st .args .t .now in let i = st .args .i .0 in let P = st .pre .1 in let L = left-boolean T (P .0) i (P .1) (E .before .if1 .left) (E .if2 .left) (P .2) in let pos = weightB-pos (booleanAt T (leftOf T i)) in arm-bnot (is-bnot T (P .0) i (P .1) (th .if3 .taken) .1) (W .walk-boolean .ensures) (A .append3 .ensures)
+walk-boolean-returns-3 t c = let A = c .before .before in let th = A .before .before .before in let W = th .before .before .before in let E = W .before .before in let S = E .before .before in let st = S .before .before .before .before .before .before in let T = st .args .t .now in let i = st .args .i .0 in let P = st .pre .1 in let L = left-boolean T (P .0) i (P .1) (E .before .if1 .left) (E .if2 .left) (P .2) in let pos = weightB-pos (booleanAt T (leftAt T i)) in arm-bnot (is-bnot T (P .0) i (P .1) (th .if3 .taken) .1) (W .walk-boolean .ensures) (A .append3 .ensures)
 
 -- src/lib.rt:55:9
 walk-boolean-walk-boolean-requires-2 : (t : ℕ) → walk-boolean-lts.Need-walk-boolean-requires-2 (claims t) (walk-boolean-at t) walk-boolean.Post
-walk-boolean-walk-boolean-requires-2 t c κs = let th = c .before in let W = th .before .before .before in let E = W .before .before in let S = E .before .before in let st = S .before .before .before .before .before .before in let T = st .args .t .now in let i = st .args .i .0 in let P = st .pre .1 in let L = left-boolean T (P .0) i (P .1) (E .before .if1 .left) (E .if2 .left) (P .2) in let pos = weightB-pos (booleanAt T (leftOf T i)) in let k3 : kindOf T i ≡ 3 = omega (arith, E .before .if1 .left, E .if2 .left, th .if3 .left, P .2) in let B = is-band T (P .0) i (P .1) k3 in let w = weight-band (B .2) in let pos2 = weightB-pos (booleanAt T (rightOf T i)) in (omega (arith, B .1 .0, st .pre .0), (P .0, omega (arith, B .1 .0, P .1), B .1 .1, record { space = omega (arith, w, P .3 .space, W .walk-boolean .ensures .next); fits = omega (arith, w, P .3 .fits, W .walk-boolean .ensures .next) }))
+walk-boolean-walk-boolean-requires-2 t c κs = let th = c .before in let W = th .before .before .before in let E = W .before .before in let S = E .before .before in let st = S .before .before .before .before .before .before in let T = st .args .t .now in let i = st .args .i .0 in let P = st .pre .1 in let L = left-boolean T (P .0) i (P .1) (E .before .if1 .left) (E .if2 .left) (P .2) in let pos = weightB-pos (booleanAt T (leftAt T i)) in let k3 : kindAt T i ≡ 3 = omega (arith, E .before .if1 .left, E .if2 .left, th .if3 .left, P .2) in let B = is-band T (P .0) i (P .1) k3 in let w = weight-band (B .2) in let pos2 = weightB-pos (booleanAt T (rightAt T i)) in (omega (arith, B .1 .0, st .pre .0), (P .0, omega (arith, B .1 .0, P .1), B .1 .1, record { space = omega (arith, w, P .3 .space, W .walk-boolean .ensures .next); fits = omega (arith, w, P .3 .fits, W .walk-boolean .ensures .next) }))
 
 -- src/lib.rt:56:23
 walk-boolean-sub-append-2 : (t : ℕ) → walk-boolean-lts.Need-sub-append-2 (claims t) (walk-boolean-at t) walk-boolean.Post
-walk-boolean-sub-append-2 t c = let W2 = c .before .before .before .before in let th = W2 .before .before in let W = th .before .before .before in let E = W .before .before in let S = E .before .before in let st = S .before .before .before .before .before .before in let T = st .args .t .now in let i = st .args .i .0 in let P = st .pre .1 in let L = left-boolean T (P .0) i (P .1) (E .before .if1 .left) (E .if2 .left) (P .2) in let pos = weightB-pos (booleanAt T (leftOf T i)) in let k3 : kindOf T i ≡ 3 = omega (arith, E .before .if1 .left, E .if2 .left, th .if3 .left, P .2) in let B = is-band T (P .0) i (P .1) k3 in let w = weight-band (B .2) in let pos2 = weightB-pos (booleanAt T (rightOf T i)) in omega (arith, W .walk-boolean .ensures .next, pos)
+walk-boolean-sub-append-2 t c = let W2 = c .before .before .before .before in let th = W2 .before .before in let W = th .before .before .before in let E = W .before .before in let S = E .before .before in let st = S .before .before .before .before .before .before in let T = st .args .t .now in let i = st .args .i .0 in let P = st .pre .1 in let L = left-boolean T (P .0) i (P .1) (E .before .if1 .left) (E .if2 .left) (P .2) in let pos = weightB-pos (booleanAt T (leftAt T i)) in let k3 : kindAt T i ≡ 3 = omega (arith, E .before .if1 .left, E .if2 .left, th .if3 .left, P .2) in let B = is-band T (P .0) i (P .1) k3 in let w = weight-band (B .2) in let pos2 = weightB-pos (booleanAt T (rightAt T i)) in omega (arith, W .walk-boolean .ensures .next, pos)
 
 -- src/lib.rt:56:32
 walk-boolean-sub-append-3 : (t : ℕ) → walk-boolean-lts.Need-sub-append-3 (claims t) (walk-boolean-at t) walk-boolean.Post
-walk-boolean-sub-append-3 t c = let W2 = c .before .before .before .before .before in let th = W2 .before .before in let W = th .before .before .before in let E = W .before .before in let S = E .before .before in let st = S .before .before .before .before .before .before in let T = st .args .t .now in let i = st .args .i .0 in let P = st .pre .1 in let L = left-boolean T (P .0) i (P .1) (E .before .if1 .left) (E .if2 .left) (P .2) in let pos = weightB-pos (booleanAt T (leftOf T i)) in let k3 : kindOf T i ≡ 3 = omega (arith, E .before .if1 .left, E .if2 .left, th .if3 .left, P .2) in let B = is-band T (P .0) i (P .1) k3 in let w = weight-band (B .2) in let pos2 = weightB-pos (booleanAt T (rightOf T i)) in omega (arith, W2 .walk-boolean2 .ensures .next, pos2)
+walk-boolean-sub-append-3 t c = let W2 = c .before .before .before .before .before in let th = W2 .before .before in let W = th .before .before .before in let E = W .before .before in let S = E .before .before in let st = S .before .before .before .before .before .before in let T = st .args .t .now in let i = st .args .i .0 in let P = st .pre .1 in let L = left-boolean T (P .0) i (P .1) (E .before .if1 .left) (E .if2 .left) (P .2) in let pos = weightB-pos (booleanAt T (leftAt T i)) in let k3 : kindAt T i ≡ 3 = omega (arith, E .before .if1 .left, E .if2 .left, th .if3 .left, P .2) in let B = is-band T (P .0) i (P .1) k3 in let w = weight-band (B .2) in let pos2 = weightB-pos (booleanAt T (rightAt T i)) in omega (arith, W2 .walk-boolean2 .ensures .next, pos2)
 
 -- src/lib.rt:56:5
 walk-boolean-append-requires-4 : (t : ℕ) → walk-boolean-lts.Need-append-requires-4 (claims t) (walk-boolean-at t) walk-boolean.Post
-walk-boolean-append-requires-4 t c κs = let W2 = c .before .before .before .before .before in let th = W2 .before .before in let W = th .before .before .before in let E = W .before .before in let S = E .before .before in let st = S .before .before .before .before .before .before in let T = st .args .t .now in let i = st .args .i .0 in let P = st .pre .1 in let L = left-boolean T (P .0) i (P .1) (E .before .if1 .left) (E .if2 .left) (P .2) in let pos = weightB-pos (booleanAt T (leftOf T i)) in let k3 : kindOf T i ≡ 3 = omega (arith, E .before .if1 .left, E .if2 .left, th .if3 .left, P .2) in let B = is-band T (P .0) i (P .1) k3 in let w = weight-band (B .2) in let pos2 = weightB-pos (booleanAt T (rightOf T i)) in record { space = omega (arith, w, P .3 .space, W .walk-boolean .ensures .next, W2 .walk-boolean2 .ensures .next); fits = omega (arith, w, P .3 .fits, W .walk-boolean .ensures .next, W2 .walk-boolean2 .ensures .next) }
+walk-boolean-append-requires-4 t c κs = let W2 = c .before .before .before .before .before in let th = W2 .before .before in let W = th .before .before .before in let E = W .before .before in let S = E .before .before in let st = S .before .before .before .before .before .before in let T = st .args .t .now in let i = st .args .i .0 in let P = st .pre .1 in let L = left-boolean T (P .0) i (P .1) (E .before .if1 .left) (E .if2 .left) (P .2) in let pos = weightB-pos (booleanAt T (leftAt T i)) in let k3 : kindAt T i ≡ 3 = omega (arith, E .before .if1 .left, E .if2 .left, th .if3 .left, P .2) in let B = is-band T (P .0) i (P .1) k3 in let w = weight-band (B .2) in let pos2 = weightB-pos (booleanAt T (rightAt T i)) in record { space = omega (arith, w, P .3 .space, W .walk-boolean .ensures .next, W2 .walk-boolean2 .ensures .next); fits = omega (arith, w, P .3 .fits, W .walk-boolean .ensures .next, W2 .walk-boolean2 .ensures .next) }
 
 -- src/lib.rt:37:1
 walk-boolean-same-length-4 : (t : ℕ) → walk-boolean-lts.Need-same-length-4 (claims t) (walk-boolean-at t) walk-boolean.Post
@@ -140,7 +140,7 @@ walk-boolean-same-length-4 t c = search needs
 
 -- src/lib.rt:37:1
 walk-boolean-returns-4 : (t : ℕ) → walk-boolean-lts.Need-returns-4 (claims t) (walk-boolean-at t) walk-boolean.Post
-walk-boolean-returns-4 t c = let A = c .before .before in let W2 = A .before .before .before .before .before .before in let th = W2 .before .before in let W = th .before .before .before in let E = W .before .before in let S = E .before .before in let st = S .before .before .before .before .before .before in let T = st .args .t .now in let i = st .args .i .0 in let P = st .pre .1 in let L = left-boolean T (P .0) i (P .1) (E .before .if1 .left) (E .if2 .left) (P .2) in let pos = weightB-pos (booleanAt T (leftOf T i)) in let k3 : kindOf T i ≡ 3 = omega (arith, E .before .if1 .left, E .if2 .left, th .if3 .left, P .2) in let B = is-band T (P .0) i (P .1) k3 in let w = weight-band (B .2) in let pos2 = weightB-pos (booleanAt T (rightOf T i)) in arm-band (B .2) (W .walk-boolean .ensures) (W2 .walk-boolean2 .ensures) (A .append4 .ensures)
+walk-boolean-returns-4 t c = let A = c .before .before in let W2 = A .before .before .before .before .before .before in let th = W2 .before .before in let W = th .before .before .before in let E = W .before .before in let S = E .before .before in let st = S .before .before .before .before .before .before in let T = st .args .t .now in let i = st .args .i .0 in let P = st .pre .1 in let L = left-boolean T (P .0) i (P .1) (E .before .if1 .left) (E .if2 .left) (P .2) in let pos = weightB-pos (booleanAt T (leftAt T i)) in let k3 : kindAt T i ≡ 3 = omega (arith, E .before .if1 .left, E .if2 .left, th .if3 .left, P .2) in let B = is-band T (P .0) i (P .1) k3 in let w = weight-band (B .2) in let pos2 = weightB-pos (booleanAt T (rightAt T i)) in arm-band (B .2) (W .walk-boolean .ensures) (W2 .walk-boolean2 .ensures) (A .append4 .ensures)
 
 pub +walk-boolean-spec : {M : Type 1} → statement M
 +walk-boolean-spec = close μ-walk-boolean λ t. walk-boolean-lts.spec (claims t) (walk-boolean-at t)

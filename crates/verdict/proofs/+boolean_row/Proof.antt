@@ -3,7 +3,7 @@ use borrow.Author.Needs.{needs}
 use native.Mathlib.Omega.{arith}
 use mathlib.Core.Path.{_≡_}
 use Prim.Native.Nat.{ℕ, _<_}
-use Rattle.table.specs.Node.{kindOf}
+use Rattle.table.specs.Node.{kindAt}
 use Rattle.psl.proofs.SoundLaw.{is-true, is-var, is-bnot, is-band}
 use Rattle.rows.proofs.RowLaw.{tells-true, tells-not, tells-and}
 use Rattle.verdict.proofs.ArmLaw.{as-boolean}
@@ -72,35 +72,35 @@ boolean-row-shared-slice-read-right t c = search needs
 
 -- src/lib.rt:27:14
 boolean-row-signal-row-requires : (t : ℕ) → boolean-row-lts.Need-signal-row-requires (claims t) (boolean-row-at t) boolean-row.Post
-boolean-row-signal-row-requires t c κs = let K = c in let S = K .before in let st = S .before .before .before .before .before .before .before in let T = st .args .t .now in let i = st .args .i .0 in let P = st .pre .1 in let e : kindOf T i ≡ 1 = K .match .keys2 in (P .3, is-var T (P .0) i (P .1) e .0)
+boolean-row-signal-row-requires t c κs = let K = c in let S = K .before in let st = S .before .before .before .before .before .before .before in let T = st .args .t .now in let i = st .args .i .0 in let P = st .pre .1 in let e : kindAt T i ≡ 1 = K .match .keys2 in (P .3, is-var T (P .0) i (P .1) e .0)
 
 -- src/lib.rt:28:15
 boolean-row-boolean-row-requires : (t : ℕ) → boolean-row-lts.Need-boolean-row-requires (claims t) (boolean-row-at t) boolean-row.Post
-boolean-row-boolean-row-requires t c κs = let K = c in let S = K .before in let st = S .before .before .before .before .before .before .before in let T = st .args .t .now in let i = st .args .i .0 in let P = st .pre .1 in let e : kindOf T i ≡ 2 = K .match .keys3 in let B = is-bnot T (P .0) i (P .1) e in (omega (arith, B .0 .0, st .pre .0), (P .0, omega (arith, B .0 .0, P .1), B .0 .1, P .3))
+boolean-row-boolean-row-requires t c κs = let K = c in let S = K .before in let st = S .before .before .before .before .before .before .before in let T = st .args .t .now in let i = st .args .i .0 in let P = st .pre .1 in let e : kindAt T i ≡ 2 = K .match .keys3 in let B = is-bnot T (P .0) i (P .1) e in (omega (arith, B .0 .0, st .pre .0), (P .0, omega (arith, B .0 .0, P .1), B .0 .1, P .3))
 
 -- src/lib.rt:29:14
 boolean-row-boolean-row-requires-2 : (t : ℕ) → boolean-row-lts.Need-boolean-row-requires-2 (claims t) (boolean-row-at t) boolean-row.Post
-boolean-row-boolean-row-requires-2 t c κs = let K = c in let S = K .before in let st = S .before .before .before .before .before .before .before in let T = st .args .t .now in let i = st .args .i .0 in let P = st .pre .1 in let e : kindOf T i ≡ 3 = omega (arith, K .match .rest .0 .0 .1, K .match .rest .0 .1, K .match .rest .1, P .2) in let B = is-band T (P .0) i (P .1) e in (omega (arith, B .0 .0, st .pre .0), (P .0, omega (arith, B .0 .0, P .1), B .0 .1, P .3))
+boolean-row-boolean-row-requires-2 t c κs = let K = c in let S = K .before in let st = S .before .before .before .before .before .before .before in let T = st .args .t .now in let i = st .args .i .0 in let P = st .pre .1 in let e : kindAt T i ≡ 3 = omega (arith, K .match .rest .0 .0 .1, K .match .rest .0 .1, K .match .rest .1, P .2) in let B = is-band T (P .0) i (P .1) e in (omega (arith, B .0 .0, st .pre .0), (P .0, omega (arith, B .0 .0, P .1), B .0 .1, P .3))
 
 -- src/lib.rt:29:58
 boolean-row-boolean-row-requires-3 : (t : ℕ) → boolean-row-lts.Need-boolean-row-requires-3 (claims t) (boolean-row-at t) boolean-row.Post
-boolean-row-boolean-row-requires-3 t c κs = let K = c .before in let S = K .before in let st = S .before .before .before .before .before .before .before in let T = st .args .t .now in let i = st .args .i .0 in let P = st .pre .1 in let e : kindOf T i ≡ 3 = omega (arith, K .match .rest .0 .0 .1, K .match .rest .0 .1, K .match .rest .1, P .2) in let B = is-band T (P .0) i (P .1) e in (omega (arith, B .1 .0, st .pre .0), (P .0, omega (arith, B .1 .0, P .1), B .1 .1, P .3))
+boolean-row-boolean-row-requires-3 t c κs = let K = c .before in let S = K .before in let st = S .before .before .before .before .before .before .before in let T = st .args .t .now in let i = st .args .i .0 in let P = st .pre .1 in let e : kindAt T i ≡ 3 = omega (arith, K .match .rest .0 .0 .1, K .match .rest .0 .1, K .match .rest .1, P .2) in let B = is-band T (P .0) i (P .1) e in (omega (arith, B .1 .0, st .pre .0), (P .0, omega (arith, B .1 .0, P .1), B .1 .1, P .3))
 
 -- src/lib.rt:17:1
 boolean-row-returns : (t : ℕ) → boolean-row-lts.Need-returns (claims t) (boolean-row-at t) boolean-row.Post
-boolean-row-returns t c = let K = c in let S = K .before in let st = S .before .before .before .before .before .before .before in let T = st .args .t .now in let i = st .args .i .0 in let P = st .pre .1 in let e : kindOf T i ≡ 0 = K .match .keys1 in as-boolean (is-true T (P .0) i (P .1) e) (tells-true (P .3))
+boolean-row-returns t c = let K = c in let S = K .before in let st = S .before .before .before .before .before .before .before in let T = st .args .t .now in let i = st .args .i .0 in let P = st .pre .1 in let e : kindAt T i ≡ 0 = K .match .keys1 in as-boolean (is-true T (P .0) i (P .1) e) (tells-true (P .3))
 
 -- src/lib.rt:17:1
 boolean-row-returns-2 : (t : ℕ) → boolean-row-lts.Need-returns-2 (claims t) (boolean-row-at t) boolean-row.Post
-boolean-row-returns-2 t c = let K = c .before in let S = K .before in let st = S .before .before .before .before .before .before .before in let T = st .args .t .now in let i = st .args .i .0 in let P = st .pre .1 in let e : kindOf T i ≡ 1 = K .match .keys2 in as-boolean (is-var T (P .0) i (P .1) e .1) (c .signal-row .ensures)
+boolean-row-returns-2 t c = let K = c .before in let S = K .before in let st = S .before .before .before .before .before .before .before in let T = st .args .t .now in let i = st .args .i .0 in let P = st .pre .1 in let e : kindAt T i ≡ 1 = K .match .keys2 in as-boolean (is-var T (P .0) i (P .1) e .1) (c .signal-row .ensures)
 
 -- src/lib.rt:17:1
 boolean-row-returns-3 : (t : ℕ) → boolean-row-lts.Need-returns-3 (claims t) (boolean-row-at t) boolean-row.Post
-boolean-row-returns-3 t c = let K = c .before in let S = K .before in let st = S .before .before .before .before .before .before .before in let T = st .args .t .now in let i = st .args .i .0 in let P = st .pre .1 in let e : kindOf T i ≡ 2 = K .match .keys3 in let B = is-bnot T (P .0) i (P .1) e in as-boolean (B .1) (tells-not (P .3) (c .boolean-row .ok) (c .boolean-row .ensures))
+boolean-row-returns-3 t c = let K = c .before in let S = K .before in let st = S .before .before .before .before .before .before .before in let T = st .args .t .now in let i = st .args .i .0 in let P = st .pre .1 in let e : kindAt T i ≡ 2 = K .match .keys3 in let B = is-bnot T (P .0) i (P .1) e in as-boolean (B .1) (tells-not (P .3) (c .boolean-row .ok) (c .boolean-row .ensures))
 
 -- src/lib.rt:17:1
 boolean-row-returns-4 : (t : ℕ) → boolean-row-lts.Need-returns-4 (claims t) (boolean-row-at t) boolean-row.Post
-boolean-row-returns-4 t c = let K = c .before .before in let S = K .before in let st = S .before .before .before .before .before .before .before in let T = st .args .t .now in let i = st .args .i .0 in let P = st .pre .1 in let e : kindOf T i ≡ 3 = omega (arith, K .match .rest .0 .0 .1, K .match .rest .0 .1, K .match .rest .1, P .2) in let B = is-band T (P .0) i (P .1) e in as-boolean (B .2) (tells-and (P .3) (c .before .boolean-row2 .ensures) (c .boolean-row3 .ensures))
+boolean-row-returns-4 t c = let K = c .before .before in let S = K .before in let st = S .before .before .before .before .before .before .before in let T = st .args .t .now in let i = st .args .i .0 in let P = st .pre .1 in let e : kindAt T i ≡ 3 = omega (arith, K .match .rest .0 .0 .1, K .match .rest .0 .1, K .match .rest .1, P .2) in let B = is-band T (P .0) i (P .1) e in as-boolean (B .2) (tells-and (P .3) (c .before .boolean-row2 .ensures) (c .boolean-row3 .ensures))
 
 pub +boolean-row-spec : {M : Type 1} → statement M
 +boolean-row-spec = close μ-boolean-row λ t. boolean-row-lts.spec (claims t) (boolean-row-at t)

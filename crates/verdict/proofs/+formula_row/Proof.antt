@@ -3,7 +3,7 @@ use borrow.Author.Needs.{needs}
 use native.Mathlib.Omega.{arith}
 use mathlib.Core.Path.{_≡_, refl}
 use Prim.Native.Nat.{ℕ, _<_}
-use Rattle.table.specs.Node.{kindOf, leftOf, rightOf}
+use Rattle.table.specs.Node.{kindAt, leftAt, rightAt}
 use Rattle.psl.specs.Parts.{booleanAt, formulaAt}
 use Rattle.psl.proofs.SoundLaw.{kind-known, is-not, is-and, is-next, is-until, is-abort}
 use Rattle.translate.specs.Translation.{treeB, translated}
@@ -85,7 +85,7 @@ formula-row-gate-requires t c κs = search needs
 
 -- src/lib.rt:43:9
 formula-row-returns : (t : ℕ) → formula-row-lts.Need-returns (claims t) (formula-row-at t) formula-row.Post
-formula-row-returns t c = let B = c .before in let th = B .before in let S = th .before in let st = S .before .before .before .before .before .before .before in let T = st .args .t .now in let i = st .args .i .0 in let P = st .pre .1 in let l = st .args .lead .now in let m = st .args .cycle .now in let L = tells-literal T (P .0) i (P .1) (P .2) (th .if1 .taken) in L .1 l m (st .args .a) (st .args .r) _ (λ x y A R. c .gate .ensures l m x (treeB (booleanAt T (leftOf T i))) y (P .3) A (B .boolean-row .ensures) R)
+formula-row-returns t c = let B = c .before in let th = B .before in let S = th .before in let st = S .before .before .before .before .before .before .before in let T = st .args .t .now in let i = st .args .i .0 in let P = st .pre .1 in let l = st .args .lead .now in let m = st .args .cycle .now in let L = tells-literal T (P .0) i (P .1) (P .2) (th .if1 .taken) in L .1 l m (st .args .a) (st .args .r) _ (λ x y A R. c .gate .ensures l m x (treeB (booleanAt T (leftAt T i))) y (P .3) A (B .boolean-row .ensures) R)
 
 -- src/lib.rt:46:15
 formula-row-add-len : (t : ℕ) → formula-row-lts.Need-add-len (claims t) (formula-row-at t) formula-row.Post
@@ -93,23 +93,23 @@ formula-row-add-len t c = search needs
 
 -- src/lib.rt:48:15
 formula-row-formula-row-requires : (t : ℕ) → formula-row-lts.Need-formula-row-requires (claims t) (formula-row-at t) formula-row.Post
-formula-row-formula-row-requires t c κs = let K = c in let S = K .before .before in let st = S .before .before .before .before .before .before .before in let T = st .args .t .now in let i = st .args .i .0 in let P = st .pre .1 in let l = st .args .lead .now in let m = st .args .cycle .now in let e : kindOf T i ≡ 6 = K .match .keys1 in let N = is-not T (P .0) i (P .1) e in (omega (arith, N .0 .0, st .pre .0), (P .0, omega (arith, N .0 .0, P .1), N .0 .1, P .3))
+formula-row-formula-row-requires t c κs = let K = c in let S = K .before .before in let st = S .before .before .before .before .before .before .before in let T = st .args .t .now in let i = st .args .i .0 in let P = st .pre .1 in let l = st .args .lead .now in let m = st .args .cycle .now in let e : kindAt T i ≡ 6 = K .match .keys1 in let N = is-not T (P .0) i (P .1) e in (omega (arith, N .0 .0, st .pre .0), (P .0, omega (arith, N .0 .0, P .1), N .0 .1, P .3))
 
 -- src/lib.rt:49:14
 formula-row-formula-row-requires-2 : (t : ℕ) → formula-row-lts.Need-formula-row-requires-2 (claims t) (formula-row-at t) formula-row.Post
-formula-row-formula-row-requires-2 t c κs = let K = c in let S = K .before .before in let st = S .before .before .before .before .before .before .before in let T = st .args .t .now in let i = st .args .i .0 in let P = st .pre .1 in let l = st .args .lead .now in let m = st .args .cycle .now in let e : kindOf T i ≡ 7 = K .match .keys2 in let N = is-and T (P .0) i (P .1) e in (omega (arith, N .0 .0, st .pre .0), (P .0, omega (arith, N .0 .0, P .1), N .0 .1, P .3))
+formula-row-formula-row-requires-2 t c κs = let K = c in let S = K .before .before in let st = S .before .before .before .before .before .before .before in let T = st .args .t .now in let i = st .args .i .0 in let P = st .pre .1 in let l = st .args .lead .now in let m = st .args .cycle .now in let e : kindAt T i ≡ 7 = K .match .keys2 in let N = is-and T (P .0) i (P .1) e in (omega (arith, N .0 .0, st .pre .0), (P .0, omega (arith, N .0 .0, P .1), N .0 .1, P .3))
 
 -- src/lib.rt:49:56
 formula-row-formula-row-requires-3 : (t : ℕ) → formula-row-lts.Need-formula-row-requires-3 (claims t) (formula-row-at t) formula-row.Post
-formula-row-formula-row-requires-3 t c κs = let K = c .before in let S = K .before .before in let st = S .before .before .before .before .before .before .before in let T = st .args .t .now in let i = st .args .i .0 in let P = st .pre .1 in let l = st .args .lead .now in let m = st .args .cycle .now in let e : kindOf T i ≡ 7 = K .match .keys2 in let N = is-and T (P .0) i (P .1) e in (omega (arith, N .1 .0, st .pre .0), (P .0, omega (arith, N .1 .0, P .1), N .1 .1, P .3))
+formula-row-formula-row-requires-3 t c κs = let K = c .before in let S = K .before .before in let st = S .before .before .before .before .before .before .before in let T = st .args .t .now in let i = st .args .i .0 in let P = st .pre .1 in let l = st .args .lead .now in let m = st .args .cycle .now in let e : kindAt T i ≡ 7 = K .match .keys2 in let N = is-and T (P .0) i (P .1) e in (omega (arith, N .1 .0, st .pre .0), (P .0, omega (arith, N .1 .0, P .1), N .1 .1, P .3))
 
 -- src/lib.rt:51:17
 formula-row-formula-row-requires-4 : (t : ℕ) → formula-row-lts.Need-formula-row-requires-4 (claims t) (formula-row-at t) formula-row.Post
-formula-row-formula-row-requires-4 t c κs = let K = c in let S = K .before .before in let st = S .before .before .before .before .before .before .before in let T = st .args .t .now in let i = st .args .i .0 in let P = st .pre .1 in let l = st .args .lead .now in let m = st .args .cycle .now in let e : kindOf T i ≡ 8 = K .match .keys3 in let N = is-next T (P .0) i (P .1) e in (omega (arith, N .0 .0, st .pre .0), (P .0, omega (arith, N .0 .0, P .1), N .0 .1, P .3))
+formula-row-formula-row-requires-4 t c κs = let K = c in let S = K .before .before in let st = S .before .before .before .before .before .before .before in let T = st .args .t .now in let i = st .args .i .0 in let P = st .pre .1 in let l = st .args .lead .now in let m = st .args .cycle .now in let e : kindAt T i ≡ 8 = K .match .keys3 in let N = is-next T (P .0) i (P .1) e in (omega (arith, N .0 .0, st .pre .0), (P .0, omega (arith, N .0 .0, P .1), N .0 .1, P .3))
 
 -- src/lib.rt:52:27
 formula-row-next-row-requires : (t : ℕ) → formula-row-lts.Need-next-row-requires (claims t) (formula-row-at t) formula-row.Post
-formula-row-next-row-requires t c κs = let K = c .before in let S = K .before .before in let st = S .before .before .before .before .before .before .before in let T = st .args .t .now in let i = st .args .i .0 in let P = st .pre .1 in let l = st .args .lead .now in let m = st .args .cycle .now in let e : kindOf T i ≡ 8 = K .match .keys3 in (omega (arith, P .3 .some), omega (arith, P .3 .most), omega arith)
+formula-row-next-row-requires t c κs = let K = c .before in let S = K .before .before in let st = S .before .before .before .before .before .before .before in let T = st .args .t .now in let i = st .args .i .0 in let P = st .pre .1 in let l = st .args .lead .now in let m = st .args .cycle .now in let e : kindAt T i ≡ 8 = K .match .keys3 in (omega (arith, P .3 .some), omega (arith, P .3 .most), omega arith)
 
 -- src/lib.rt:52:13
 formula-row-gate-requires-2 : (t : ℕ) → formula-row-lts.Need-gate-requires-2 (claims t) (formula-row-at t) formula-row.Post
@@ -117,19 +117,19 @@ formula-row-gate-requires-2 t c κs = search needs
 
 -- src/lib.rt:55:17
 formula-row-formula-row-requires-5 : (t : ℕ) → formula-row-lts.Need-formula-row-requires-5 (claims t) (formula-row-at t) formula-row.Post
-formula-row-formula-row-requires-5 t c κs = let K = c in let S = K .before .before in let st = S .before .before .before .before .before .before .before in let T = st .args .t .now in let i = st .args .i .0 in let P = st .pre .1 in let l = st .args .lead .now in let m = st .args .cycle .now in let e : kindOf T i ≡ 9 = K .match .keys4 in let N = is-until T (P .0) i (P .1) e in (omega (arith, N .0 .0, st .pre .0), (P .0, omega (arith, N .0 .0, P .1), N .0 .1, P .3))
+formula-row-formula-row-requires-5 t c κs = let K = c in let S = K .before .before in let st = S .before .before .before .before .before .before .before in let T = st .args .t .now in let i = st .args .i .0 in let P = st .pre .1 in let l = st .args .lead .now in let m = st .args .cycle .now in let e : kindAt T i ≡ 9 = K .match .keys4 in let N = is-until T (P .0) i (P .1) e in (omega (arith, N .0 .0, st .pre .0), (P .0, omega (arith, N .0 .0, P .1), N .0 .1, P .3))
 
 -- src/lib.rt:56:17
 formula-row-formula-row-requires-6 : (t : ℕ) → formula-row-lts.Need-formula-row-requires-6 (claims t) (formula-row-at t) formula-row.Post
-formula-row-formula-row-requires-6 t c κs = let K = c .before in let S = K .before .before in let st = S .before .before .before .before .before .before .before in let T = st .args .t .now in let i = st .args .i .0 in let P = st .pre .1 in let l = st .args .lead .now in let m = st .args .cycle .now in let e : kindOf T i ≡ 9 = K .match .keys4 in let N = is-until T (P .0) i (P .1) e in (omega (arith, N .1 .0, st .pre .0), (P .0, omega (arith, N .1 .0, P .1), N .1 .1, P .3))
+formula-row-formula-row-requires-6 t c κs = let K = c .before in let S = K .before .before in let st = S .before .before .before .before .before .before .before in let T = st .args .t .now in let i = st .args .i .0 in let P = st .pre .1 in let l = st .args .lead .now in let m = st .args .cycle .now in let e : kindAt T i ≡ 9 = K .match .keys4 in let N = is-until T (P .0) i (P .1) e in (omega (arith, N .1 .0, st .pre .0), (P .0, omega (arith, N .1 .0, P .1), N .1 .1, P .3))
 
 -- src/lib.rt:57:13
 formula-row-until-row-requires : (t : ℕ) → formula-row-lts.Need-until-row-requires (claims t) (formula-row-at t) formula-row.Post
-formula-row-until-row-requires t c κs = let K = c .before .before in let S = K .before .before in let st = S .before .before .before .before .before .before .before in let T = st .args .t .now in let i = st .args .i .0 in let P = st .pre .1 in let l = st .args .lead .now in let m = st .args .cycle .now in let e : kindOf T i ≡ 9 = K .match .keys4 in (omega (arith, P .3 .some), omega (arith, P .3 .most), omega arith)
+formula-row-until-row-requires t c κs = let K = c .before .before in let S = K .before .before in let st = S .before .before .before .before .before .before .before in let T = st .args .t .now in let i = st .args .i .0 in let P = st .pre .1 in let l = st .args .lead .now in let m = st .args .cycle .now in let e : kindAt T i ≡ 9 = K .match .keys4 in (omega (arith, P .3 .some), omega (arith, P .3 .most), omega arith)
 
 -- src/lib.rt:60:17
 formula-row-boolean-row-requires-2 : (t : ℕ) → formula-row-lts.Need-boolean-row-requires-2 (claims t) (formula-row-at t) formula-row.Post
-formula-row-boolean-row-requires-2 t c κs = let K = c in let S = K .before .before in let st = S .before .before .before .before .before .before .before in let T = st .args .t .now in let i = st .args .i .0 in let P = st .pre .1 in let l = st .args .lead .now in let m = st .args .cycle .now in let e : kindOf T i ≡ 10 = omega (arith, K .before .if1 .left, K .match .rest .0 .0 .0 .1, K .match .rest .0 .0 .1, K .match .rest .0 .1, K .match .rest .1, kind-known T (P .0) i (P .1)) in let N = is-abort T (P .0) i (P .1) e in (P .0, omega (arith, N .1 .0, P .1), N .1 .1, P .3)
+formula-row-boolean-row-requires-2 t c κs = let K = c in let S = K .before .before in let st = S .before .before .before .before .before .before .before in let T = st .args .t .now in let i = st .args .i .0 in let P = st .pre .1 in let l = st .args .lead .now in let m = st .args .cycle .now in let e : kindAt T i ≡ 10 = omega (arith, K .before .if1 .left, K .match .rest .0 .0 .0 .1, K .match .rest .0 .0 .1, K .match .rest .0 .1, K .match .rest .1, kind-known T (P .0) i (P .1)) in let N = is-abort T (P .0) i (P .1) e in (P .0, omega (arith, N .1 .0, P .1), N .1 .1, P .3)
 
 -- src/lib.rt:61:34
 formula-row-gate-requires-3 : (t : ℕ) → formula-row-lts.Need-gate-requires-3 (claims t) (formula-row-at t) formula-row.Post
@@ -137,27 +137,27 @@ formula-row-gate-requires-3 t c κs = search needs
 
 -- src/lib.rt:61:13
 formula-row-formula-row-requires-7 : (t : ℕ) → formula-row-lts.Need-formula-row-requires-7 (claims t) (formula-row-at t) formula-row.Post
-formula-row-formula-row-requires-7 t c κs = let K = c .before .before in let S = K .before .before in let st = S .before .before .before .before .before .before .before in let T = st .args .t .now in let i = st .args .i .0 in let P = st .pre .1 in let l = st .args .lead .now in let m = st .args .cycle .now in let e : kindOf T i ≡ 10 = omega (arith, K .before .if1 .left, K .match .rest .0 .0 .0 .1, K .match .rest .0 .0 .1, K .match .rest .0 .1, K .match .rest .1, kind-known T (P .0) i (P .1)) in let N = is-abort T (P .0) i (P .1) e in (omega (arith, N .0 .0, st .pre .0), (P .0, omega (arith, N .0 .0, P .1), N .0 .1, P .3))
+formula-row-formula-row-requires-7 t c κs = let K = c .before .before in let S = K .before .before in let st = S .before .before .before .before .before .before .before in let T = st .args .t .now in let i = st .args .i .0 in let P = st .pre .1 in let l = st .args .lead .now in let m = st .args .cycle .now in let e : kindAt T i ≡ 10 = omega (arith, K .before .if1 .left, K .match .rest .0 .0 .0 .1, K .match .rest .0 .0 .1, K .match .rest .0 .1, K .match .rest .1, kind-known T (P .0) i (P .1)) in let N = is-abort T (P .0) i (P .1) e in (omega (arith, N .0 .0, st .pre .0), (P .0, omega (arith, N .0 .0, P .1), N .0 .1, P .3))
 
 -- src/lib.rt:34:1
 formula-row-returns-2 : (t : ℕ) → formula-row-lts.Need-returns-2 (claims t) (formula-row-at t) formula-row.Post
-formula-row-returns-2 t c = let K = c .before in let S = K .before .before in let st = S .before .before .before .before .before .before .before in let T = st .args .t .now in let i = st .args .i .0 in let P = st .pre .1 in let l = st .args .lead .now in let m = st .args .cycle .now in let e : kindOf T i ≡ 6 = K .match .keys1 in let N = is-not T (P .0) i (P .1) e in as-formula (N .1) (λ x y A R. tells-not (P .3) (c .formula-row .ok) (c .formula-row .ensures y x R A))
+formula-row-returns-2 t c = let K = c .before in let S = K .before .before in let st = S .before .before .before .before .before .before .before in let T = st .args .t .now in let i = st .args .i .0 in let P = st .pre .1 in let l = st .args .lead .now in let m = st .args .cycle .now in let e : kindAt T i ≡ 6 = K .match .keys1 in let N = is-not T (P .0) i (P .1) e in as-formula (N .1) (λ x y A R. tells-not (P .3) (c .formula-row .ok) (c .formula-row .ensures y x R A))
 
 -- src/lib.rt:34:1
 formula-row-returns-3 : (t : ℕ) → formula-row-lts.Need-returns-3 (claims t) (formula-row-at t) formula-row.Post
-formula-row-returns-3 t c = let K = c .before .before in let S = K .before .before in let st = S .before .before .before .before .before .before .before in let T = st .args .t .now in let i = st .args .i .0 in let P = st .pre .1 in let l = st .args .lead .now in let m = st .args .cycle .now in let e : kindOf T i ≡ 7 = K .match .keys2 in let N = is-and T (P .0) i (P .1) e in as-formula (N .2) (λ x y A R. tells-and (P .3) (c .before .formula-row2 .ensures x y A R) (c .formula-row3 .ensures x y A R))
+formula-row-returns-3 t c = let K = c .before .before in let S = K .before .before in let st = S .before .before .before .before .before .before .before in let T = st .args .t .now in let i = st .args .i .0 in let P = st .pre .1 in let l = st .args .lead .now in let m = st .args .cycle .now in let e : kindAt T i ≡ 7 = K .match .keys2 in let N = is-and T (P .0) i (P .1) e in as-formula (N .2) (λ x y A R. tells-and (P .3) (c .before .formula-row2 .ensures x y A R) (c .formula-row3 .ensures x y A R))
 
 -- src/lib.rt:34:1
 formula-row-returns-4 : (t : ℕ) → formula-row-lts.Need-returns-4 (claims t) (formula-row-at t) formula-row.Post
-formula-row-returns-4 t c = let Q = c .before in let F = Q .before in let K = F .before in let S = K .before .before in let st = S .before .before .before .before .before .before .before in let T = st .args .t .now in let i = st .args .i .0 in let P = st .pre .1 in let l = st .args .lead .now in let m = st .args .cycle .now in let e : kindOf T i ≡ 8 = K .match .keys3 in let N = is-next T (P .0) i (P .1) e in as-formula (N .1) (λ x y A R. c .gate2 .ensures l m x _ y (P .3) A (Q .next-row .ensures l m (translated (formulaAt T (leftOf T i)) x y) refl refl (F .formula-row4 .ensures x y A R)) R)
+formula-row-returns-4 t c = let Q = c .before in let F = Q .before in let K = F .before in let S = K .before .before in let st = S .before .before .before .before .before .before .before in let T = st .args .t .now in let i = st .args .i .0 in let P = st .pre .1 in let l = st .args .lead .now in let m = st .args .cycle .now in let e : kindAt T i ≡ 8 = K .match .keys3 in let N = is-next T (P .0) i (P .1) e in as-formula (N .1) (λ x y A R. c .gate2 .ensures l m x _ y (P .3) A (Q .next-row .ensures l m (translated (formulaAt T (leftAt T i)) x y) refl refl (F .formula-row4 .ensures x y A R)) R)
 
 -- src/lib.rt:34:1
 formula-row-returns-5 : (t : ℕ) → formula-row-lts.Need-returns-5 (claims t) (formula-row-at t) formula-row.Post
-formula-row-returns-5 t c = let G = c .before in let F = G .before in let K = F .before in let S = K .before .before in let st = S .before .before .before .before .before .before .before in let T = st .args .t .now in let i = st .args .i .0 in let P = st .pre .1 in let l = st .args .lead .now in let m = st .args .cycle .now in let e : kindOf T i ≡ 9 = K .match .keys4 in let N = is-until T (P .0) i (P .1) e in as-formula (N .2) (λ x y A R. c .until-row .ensures l m (translated (formulaAt T (leftOf T i)) x y) (translated (formulaAt T (rightOf T i)) x y) refl refl (F .formula-row5 .ensures x y A R) (G .formula-row6 .ensures x y A R))
+formula-row-returns-5 t c = let G = c .before in let F = G .before in let K = F .before in let S = K .before .before in let st = S .before .before .before .before .before .before .before in let T = st .args .t .now in let i = st .args .i .0 in let P = st .pre .1 in let l = st .args .lead .now in let m = st .args .cycle .now in let e : kindAt T i ≡ 9 = K .match .keys4 in let N = is-until T (P .0) i (P .1) e in as-formula (N .2) (λ x y A R. c .until-row .ensures l m (translated (formulaAt T (leftAt T i)) x y) (translated (formulaAt T (rightAt T i)) x y) refl refl (F .formula-row5 .ensures x y A R) (G .formula-row6 .ensures x y A R))
 
 -- src/lib.rt:34:1
 formula-row-returns-6 : (t : ℕ) → formula-row-lts.Need-returns-6 (claims t) (formula-row-at t) formula-row.Post
-formula-row-returns-6 t c = let G = c .before in let B = G .before in let K = B .before in let S = K .before .before in let st = S .before .before .before .before .before .before .before in let T = st .args .t .now in let i = st .args .i .0 in let P = st .pre .1 in let l = st .args .lead .now in let m = st .args .cycle .now in let e : kindOf T i ≡ 10 = omega (arith, K .before .if1 .left, K .match .rest .0 .0 .0 .1, K .match .rest .0 .0 .1, K .match .rest .0 .1, K .match .rest .1, kind-known T (P .0) i (P .1)) in let N = is-abort T (P .0) i (P .1) e in as-formula (N .2) (λ x y A R. c .formula-row7 .ensures _ y (G .gate3 .ensures l m x (treeB (booleanAt T (rightOf T i))) y (P .3) A (B .boolean-row2 .ensures) R) R)
+formula-row-returns-6 t c = let G = c .before in let B = G .before in let K = B .before in let S = K .before .before in let st = S .before .before .before .before .before .before .before in let T = st .args .t .now in let i = st .args .i .0 in let P = st .pre .1 in let l = st .args .lead .now in let m = st .args .cycle .now in let e : kindAt T i ≡ 10 = omega (arith, K .before .if1 .left, K .match .rest .0 .0 .0 .1, K .match .rest .0 .0 .1, K .match .rest .0 .1, K .match .rest .1, kind-known T (P .0) i (P .1)) in let N = is-abort T (P .0) i (P .1) e in as-formula (N .2) (λ x y A R. c .formula-row7 .ensures _ y (G .gate3 .ensures l m x (treeB (booleanAt T (rightAt T i))) y (P .3) A (B .boolean-row2 .ensures) R) R)
 
 pub +formula-row-spec : {M : Type 1} → statement M
 +formula-row-spec = close μ-formula-row λ t. formula-row-lts.spec (claims t) (formula-row-at t)

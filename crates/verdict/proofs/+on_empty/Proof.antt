@@ -3,7 +3,7 @@ use borrow.Author.Needs.{needs}
 use native.Mathlib.Omega.{arith}
 use mathlib.Core.Path.{_≡_}
 use Prim.Native.Nat.{ℕ, _<_}
-use Rattle.table.specs.Node.{kindOf}
+use Rattle.table.specs.Node.{kindAt}
 use Rattle.psl.proofs.SoundLaw.{is-weak, is-not, is-and, is-abort}
 use Rattle.verdict.proofs.ArmLaw.{empty-weak, empty-not, empty-and, empty-abort, empty-rest}
 use borrow.Fn.Kinds.{In}
@@ -83,43 +83,43 @@ on-empty-shared-slice-read-t9-2 t c = search needs
 
 -- src/lib.rt:77:15
 on-empty-on-empty-requires : (t : ℕ) → on-empty-lts.Need-on-empty-requires (claims t) (on-empty-at t) on-empty.Post
-on-empty-on-empty-requires t c κs = let K = c in let S = K .before in let st = S .before .before .before .before .before in let T = st .args .t .now in let i = st .args .i .0 in let P = st .pre .1 in let e : kindOf T i ≡ 6 = K .match .keys2 in let N = is-not T (P .0) i (P .1) e in (omega (arith, N .0 .0, st .pre .0), (P .0, omega (arith, N .0 .0, P .1), N .0 .1))
+on-empty-on-empty-requires t c κs = let K = c in let S = K .before in let st = S .before .before .before .before .before in let T = st .args .t .now in let i = st .args .i .0 in let P = st .pre .1 in let e : kindAt T i ≡ 6 = K .match .keys2 in let N = is-not T (P .0) i (P .1) e in (omega (arith, N .0 .0, st .pre .0), (P .0, omega (arith, N .0 .0, P .1), N .0 .1))
 
 -- src/lib.rt:78:14
 on-empty-on-empty-requires-2 : (t : ℕ) → on-empty-lts.Need-on-empty-requires-2 (claims t) (on-empty-at t) on-empty.Post
-on-empty-on-empty-requires-2 t c κs = let K = c in let S = K .before in let st = S .before .before .before .before .before in let T = st .args .t .now in let i = st .args .i .0 in let P = st .pre .1 in let e : kindOf T i ≡ 7 = K .match .keys3 in let N = is-and T (P .0) i (P .1) e in (omega (arith, N .0 .0, st .pre .0), (P .0, omega (arith, N .0 .0, P .1), N .0 .1))
+on-empty-on-empty-requires-2 t c κs = let K = c in let S = K .before in let st = S .before .before .before .before .before in let T = st .args .t .now in let i = st .args .i .0 in let P = st .pre .1 in let e : kindAt T i ≡ 7 = K .match .keys3 in let N = is-and T (P .0) i (P .1) e in (omega (arith, N .0 .0, st .pre .0), (P .0, omega (arith, N .0 .0, P .1), N .0 .1))
 
 -- src/lib.rt:78:34
 on-empty-on-empty-requires-3 : (t : ℕ) → on-empty-lts.Need-on-empty-requires-3 (claims t) (on-empty-at t) on-empty.Post
-on-empty-on-empty-requires-3 t c κs = let K = c .before in let S = K .before in let st = S .before .before .before .before .before in let T = st .args .t .now in let i = st .args .i .0 in let P = st .pre .1 in let e : kindOf T i ≡ 7 = K .match .keys3 in let N = is-and T (P .0) i (P .1) e in (omega (arith, N .1 .0, st .pre .0), (P .0, omega (arith, N .1 .0, P .1), N .1 .1))
+on-empty-on-empty-requires-3 t c κs = let K = c .before in let S = K .before in let st = S .before .before .before .before .before in let T = st .args .t .now in let i = st .args .i .0 in let P = st .pre .1 in let e : kindAt T i ≡ 7 = K .match .keys3 in let N = is-and T (P .0) i (P .1) e in (omega (arith, N .1 .0, st .pre .0), (P .0, omega (arith, N .1 .0, P .1), N .1 .1))
 
 -- src/lib.rt:79:15
 on-empty-on-empty-requires-4 : (t : ℕ) → on-empty-lts.Need-on-empty-requires-4 (claims t) (on-empty-at t) on-empty.Post
-on-empty-on-empty-requires-4 t c κs = let K = c in let S = K .before in let st = S .before .before .before .before .before in let T = st .args .t .now in let i = st .args .i .0 in let P = st .pre .1 in let e : kindOf T i ≡ 10 = K .match .keys4 in let N = is-abort T (P .0) i (P .1) e in (omega (arith, N .0 .0, st .pre .0), (P .0, omega (arith, N .0 .0, P .1), N .0 .1))
+on-empty-on-empty-requires-4 t c κs = let K = c in let S = K .before in let st = S .before .before .before .before .before in let T = st .args .t .now in let i = st .args .i .0 in let P = st .pre .1 in let e : kindAt T i ≡ 10 = K .match .keys4 in let N = is-abort T (P .0) i (P .1) e in (omega (arith, N .0 .0, st .pre .0), (P .0, omega (arith, N .0 .0, P .1), N .0 .1))
 
 -- src/lib.rt:67:1
 on-empty-returns :
     (t : ℕ) →
     on-empty-lts.Need-returns (claims t) (on-empty-at t) on-empty.Post
-on-empty-returns t c = let K = c in let S = K .before in let st = S .before .before .before .before .before in let T = st .args .t .now in let i = st .args .i .0 in let P = st .pre .1 in let e : kindOf T i ≡ 4 = K .match .keys1 in empty-weak (is-weak T (P .0) i (P .1) e .1)
+on-empty-returns t c = let K = c in let S = K .before in let st = S .before .before .before .before .before in let T = st .args .t .now in let i = st .args .i .0 in let P = st .pre .1 in let e : kindAt T i ≡ 4 = K .match .keys1 in empty-weak (is-weak T (P .0) i (P .1) e .1)
 
 -- src/lib.rt:67:1
 on-empty-returns-2 :
     (t : ℕ) →
     on-empty-lts.Need-returns-2 (claims t) (on-empty-at t) on-empty.Post
-on-empty-returns-2 t c = let K = c .before in let S = K .before in let st = S .before .before .before .before .before in let T = st .args .t .now in let i = st .args .i .0 in let P = st .pre .1 in let e : kindOf T i ≡ 6 = K .match .keys2 in let N = is-not T (P .0) i (P .1) e in empty-not (N .1) (c .on-empty .ensures)
+on-empty-returns-2 t c = let K = c .before in let S = K .before in let st = S .before .before .before .before .before in let T = st .args .t .now in let i = st .args .i .0 in let P = st .pre .1 in let e : kindAt T i ≡ 6 = K .match .keys2 in let N = is-not T (P .0) i (P .1) e in empty-not (N .1) (c .on-empty .ensures)
 
 -- src/lib.rt:67:1
 on-empty-returns-3 :
     (t : ℕ) →
     on-empty-lts.Need-returns-3 (claims t) (on-empty-at t) on-empty.Post
-on-empty-returns-3 t c = let K = c .before .before in let S = K .before in let st = S .before .before .before .before .before in let T = st .args .t .now in let i = st .args .i .0 in let P = st .pre .1 in let e : kindOf T i ≡ 7 = K .match .keys3 in let N = is-and T (P .0) i (P .1) e in empty-and (N .2) (c .before .on-empty2 .ensures) (c .on-empty3 .ensures)
+on-empty-returns-3 t c = let K = c .before .before in let S = K .before in let st = S .before .before .before .before .before in let T = st .args .t .now in let i = st .args .i .0 in let P = st .pre .1 in let e : kindAt T i ≡ 7 = K .match .keys3 in let N = is-and T (P .0) i (P .1) e in empty-and (N .2) (c .before .on-empty2 .ensures) (c .on-empty3 .ensures)
 
 -- src/lib.rt:67:1
 on-empty-returns-4 :
     (t : ℕ) →
     on-empty-lts.Need-returns-4 (claims t) (on-empty-at t) on-empty.Post
-on-empty-returns-4 t c = let K = c .before in let S = K .before in let st = S .before .before .before .before .before in let T = st .args .t .now in let i = st .args .i .0 in let P = st .pre .1 in let e : kindOf T i ≡ 10 = K .match .keys4 in let N = is-abort T (P .0) i (P .1) e in empty-abort (N .2) (c .on-empty4 .ensures)
+on-empty-returns-4 t c = let K = c .before in let S = K .before in let st = S .before .before .before .before .before in let T = st .args .t .now in let i = st .args .i .0 in let P = st .pre .1 in let e : kindAt T i ≡ 10 = K .match .keys4 in let N = is-abort T (P .0) i (P .1) e in empty-abort (N .2) (c .on-empty4 .ensures)
 
 -- src/lib.rt:67:1
 on-empty-returns-5 :

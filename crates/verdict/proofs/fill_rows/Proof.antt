@@ -4,7 +4,7 @@ use native.Mathlib.Omega.{arith}
 use mathlib.Core.Path.{_≡_, subst}
 use Prim.Native.Nat.{ℕ, _-_, _≤_, _<_}
 use lib.ListN.{length, getD, length-set}
-use Rattle.table.specs.Node.{nodesOf, count, kindOf, leftOf, rightOf}
+use Rattle.table.specs.Node.{nodesOf, count, kindAt, leftAt, rightAt}
 use Rattle.table.proofs.NodeLaw.{length-nodes, node-at}
 use Rattle.ltl.proofs.SoundLaw.{is-var, both-below, below-any}
 use Rattle.ltl.specs.Table.{treeOf}
@@ -116,7 +116,7 @@ loop-less c = search needs
 
 -- src/lib.rt:95:5
 loop-again : tie.Need-loop-again Inv-loop μ-loop
-loop-again c = let L = c .before .before .before .before .before .before .before in let st = L .before .before .before .before .before in let t = st .args .t .now in let i = L .loop .i in let I = L .loop .inv in let P = st .pre in let h : i < count t = omega (arith, I .0, I .1) in let B = below-any t (P .0) i h (length (L .loop .told)) (omega (arith, I .2, P .4)) (omega (arith, h, I .2, P .3)) in (I .0, search needs, simp length-set (I .2), told-more i (kindOf t i) (leftOf t i) (rightOf t i) _ (omega (arith, length-nodes t, h)) (omega (arith, h, I .2, P .3)) (node-at t i (omega arith)) (both-below t (P .0) i h) (c .node-row .ensures) (I .3))
+loop-again c = let L = c .before .before .before .before .before .before .before in let st = L .before .before .before .before .before in let t = st .args .t .now in let i = L .loop .i in let I = L .loop .inv in let P = st .pre in let h : i < count t = omega (arith, I .0, I .1) in let B = below-any t (P .0) i h (length (L .loop .told)) (omega (arith, I .2, P .4)) (omega (arith, h, I .2, P .3)) in (I .0, search needs, simp length-set (I .2), told-more i (kindAt t i) (leftAt t i) (rightAt t i) _ (omega (arith, length-nodes t, h)) (omega (arith, h, I .2, P .3)) (node-at t i (omega arith)) (both-below t (P .0) i h) (c .node-row .ensures) (I .3))
 
 -- src/lib.rt:89:1
 same-length : tie.Need-same-length Inv-loop μ-loop

@@ -1,0 +1,249 @@
+-- Laws of the check that both tables share: when a node is refused, which refusal decides, and what a table that is not refused is like.
+use mathlib.Core.Path.{_≡_, refl, sym, ap, _∙_, subst}
+use mathlib.Core.Bool.{Bool, true, false, not, cond, _&&_, _||_}
+use mathlib.Core.Option.{Option, none, some}
+use mathlib.Core.List.{List}
+use Prim.Native.Nat.{ℕ, zero, suc, _+_, _*_, _/_, _%_, _≤_, _<_}
+use native.Mathlib.Omega.{arith}
+use native.Mathlib.Numerals.{add-one}
+use native.Mathlib.Decide.{decLt, ℕ-discrete}
+use lib.Dec.{eqb, ltb, leb}
+use lib.ListN.{length}
+use borrow.Author.Tests.{lt-ltb, eq-eqb, ne-eqb, eqb-true, ltb-true, leb-true}
+use Rattle.trace.specs.declared.Refusal.{Refusal}
+use Rattle.table.specs.declared.Place.{Place}
+use Rattle.table.specs.declared.Shape.{Shape}
+use Rattle.table.specs.declared.Numbers.{Numbers}
+use Rattle.table.specs.declared.Rules.{Rules}
+use Rattle.table.specs.declared.Checked.{Checked}
+use Rattle.table.specs.declared.Checked.the-variants.{Accepted, Refused}
+use Rattle.table.specs.Node.{Node, node, count, kindAt, leftAt, rightAt, nodeAt}
+use Rattle.table.specs.Answer.{refused, checked}
+use Rattle.table.specs.Check.{unusedFits, signalFits, operandFits, sortFits, allFit, lengthFits, known, mostKinds, shapeOf, unless, placesRefusal, nodeRefusal, isBoolean, refusalAt, orElse, lowest, tableRefusal}
+
+-- ── Tests and answers ──
+
+pub both-true : (a b : Bool) → a && b ≡ true → (a ≡ true) × (b ≡ true)
+both-true true b e = (refl, e)
+both-true false b e = let z : _≡_ {A = ℕ} 0 1 = cc in absurd (omega arith)
+
+pub not-both : (b : Bool) → b ≡ true → b ≡ false → ⊥
+not-both b e d = let z : _≡_ {A = ℕ} 0 1 = cc in omega arith
+
+pub some-none : {A : Type 0} {x : A} → some x ≡ none → ⊥
+some-none e = let z : _≡_ {A = ℕ} 0 1 = cc in omega arith
+
+pub unless-none : (b : Bool) (x : Refusal) (o : Option Refusal) → unless b x o ≡ none → (b ≡ true) × (o ≡ none)
+unless-none true x o e = (refl, e)
+unless-none false x o e = absurd (some-none e)
+
+pub or-none : (o p : Option Refusal) → orElse o p ≡ none → (o ≡ none) × (p ≡ none)
+or-none none p e = (refl, e)
+or-none (some x) p e = absurd (some-none e)
+
+-- The answer tells the refusal.
+pub accepted : (o : Option Refusal) (a : Checked) → a ≡ checked o → a ≡ Accepted → o ≡ none
+accepted none a e d = refl
+accepted (some x) a e d = let z : _≡_ {A = ℕ} 0 1 = cc in absurd (omega arith)
+
+pub was-refused : (o : Option Refusal) (a : Checked) (x : Refusal) → a ≡ checked o → a ≡ Refused x → o ≡ some x
+was-refused none a x e d = let z : _≡_ {A = ℕ} 0 1 = cc in absurd (omega arith)
+was-refused (some y) a x e d = cc
+
+-- ── A place ──
+
+-- A place that holds n, at node i, passes all tests; b tells whether the operand is a Boolean.
+pub record Fits (p : Place) (n i : ℕ) (b : Bool) : Type 0 where
+  pub low : n < cond (p .operand) i (p .limit)
+  pub sort : sortFits p b ≡ true
+
+unused-fits : (o : Bool) (m n i : ℕ) → n < cond o i m → (o || not (eqb m 1)) || eqb n 0 ≡ true
+unused-fits true m n i h = refl
+unused-fits false m n i h =
+    elim (ℕ-discrete m 1) [
+      | yes e ↦ rw (eq-eqb m 1 e, eq-eqb n 0 (omega arith))
+      | no e ↦ rw (ne-eqb m 1 e)
+    ]
+
+signal-fits : (o : Bool) (m n i : ℕ) → n < cond o i m → o || ltb n m ≡ true
+signal-fits true m n i h = refl
+signal-fits false m n i h = lt-ltb n m h
+
+operand-fits : (o : Bool) (m n i : ℕ) → n < cond o i m → not o || ltb n i ≡ true
+operand-fits true m n i h = lt-ltb n i h
+operand-fits false m n i h = refl
+
+low-fits : (o : Bool) (m n i : ℕ) → o || ltb n m ≡ true → not o || ltb n i ≡ true → n < cond o i m
+low-fits true m n i e d = ltb-true n i d
+low-fits false m n i e d = ltb-true n m e
+
+all-fits : (p : Place) (n i : ℕ) (b : Bool) → allFit p n i b ≡ true → Fits p n i b
+all-fits p n i b e =
+    let c = both-true (ltb n (cond (p .operand) i (p .limit))) (sortFits p b) e in
+    record { low = ltb-true n (cond (p .operand) i (p .limit)) (c .0); sort = c .1 }
+
+fits-all : (p : Place) (n i : ℕ) (b : Bool) → Fits p n i b → allFit p n i b ≡ true
+fits-all p n i b f = rw (lt-ltb n (cond (p .operand) i (p .limit)) (f .low)) (f .sort)
+
+-- ── A node ──
+
+module _ (x : Numbers) (h : Shape) (i l r : ℕ) (lb rb : Bool) where
+  pub places-none : Fits (h .0) l i lb → Fits (h .1) r i rb → placesRefusal x h i l r lb rb ≡ none
+  unfolding placesRefusal
+  places-none f g =
+      let p = h .0 in
+      let q = h .1 in
+      rw (
+        unused-fits (p .operand) (p .limit) l i (f .low),
+        unused-fits (q .operand) (q .limit) r i (g .low),
+        signal-fits (p .operand) (p .limit) l i (f .low),
+        signal-fits (q .operand) (q .limit) r i (g .low),
+        operand-fits (p .operand) (p .limit) l i (f .low),
+        operand-fits (q .operand) (q .limit) r i (g .low),
+        f .sort,
+        g .sort,
+      )
+
+  pub places-fit : placesRefusal x h i l r lb rb ≡ none → Fits (h .0) l i lb × Fits (h .1) r i rb
+  unfolding placesRefusal
+  places-fit e =
+      let p = h .0 in
+      let q = h .1 in
+      let a = unless-none (unusedFits p l && unusedFits q r) _ _ e in
+      let b = unless-none (signalFits p l && signalFits q r) _ _ (a .1) in
+      let c = unless-none (operandFits p l i && operandFits q r i) _ _ (b .1) in
+      let d = unless-none (sortFits p lb && sortFits q rb) _ none (c .1) in
+      let s = both-true (signalFits p l) (signalFits q r) (b .0) in
+      let o = both-true (operandFits p l i) (operandFits q r i) (c .0) in
+      let t = both-true (sortFits p lb) (sortFits q rb) (d .0) in (
+        record { low = low-fits (p .operand) (p .limit) l i (s .0) (o .0); sort = t .0 },
+        record { low = low-fits (q .operand) (q .limit) r i (s .1) (o .1); sort = t .1 },
+      )
+
+-- What a node that is not refused is like.
+pub record Sound (R : Rules) (t : List ℕ) (i : ℕ) : Type 0 where
+  pub kind : known R (kindAt t i) ≡ true
+  pub left : Fits (shapeOf R (kindAt t i) .0) (leftAt t i) i (isBoolean R t (leftAt t i))
+  pub right : Fits (shapeOf R (kindAt t i) .1) (rightAt t i) i (isBoolean R t (rightAt t i))
+
+module _ (R : Rules) (k : ℕ) (e : known R k ≡ true) where
+  pub known-kind : k < R .kinds
+  known-kind = ltb-true k (R .kinds) (both-true (ltb k (R .kinds)) (ltb k mostKinds) e .0)
+
+  pub known-low : k < mostKinds
+  known-low = ltb-true k mostKinds (both-true (ltb k (R .kinds)) (ltb k mostKinds) e .1)
+
+module _ (R : Rules) (t : List ℕ) (i : ℕ) where
+  pub node-none : Sound R t i → refusalAt R t i ≡ none
+  unfolding refusalAt nodeRefusal
+  node-none s = rw (s .kind) (places-none (R .numbers) (shapeOf R (kindAt t i)) i (leftAt t i) (rightAt t i) _ _ (s .left) (s .right))
+
+  pub node-sound : refusalAt R t i ≡ none → Sound R t i
+  unfolding refusalAt nodeRefusal
+  node-sound e =
+      let a = unless-none (known R (kindAt t i)) _ _ e in
+      let f = places-fit (R .numbers) (shapeOf R (kindAt t i)) i (leftAt t i) (rightAt t i) _ _ (a .1) in
+      record { kind = a .0; left = f .0; right = f .1 }
+
+-- Node i as the code reads it: the kinds of what its places name are a and b.
+module _ (R : Rules) (t : List ℕ) (i a b : ℕ) (ea : a ≡ kindAt t (leftAt t i)) (eb : b ≡ kindAt t (rightAt t i)) where
+  pub read-node : nodeRefusal R i (nodeAt t i) (ltb a (R .booleans)) (ltb b (R .booleans)) ≡ refusalAt R t i
+  unfolding refusalAt
+  read-node = rw (ea, eb)
+
+  abbrev Fast : Bool
+  Fast =
+      let h = shapeOf R (kindAt t i) in
+      allFit (h .0) (leftAt t i) i (ltb a (R .booleans)) && allFit (h .1) (rightAt t i) i (ltb b (R .booleans))
+
+  pub fast-none : known R (kindAt t i) ≡ true → Fast ≡ true → refusalAt R t i ≡ none
+  fast-none k f =
+      let h = shapeOf R (kindAt t i) in
+      let c = both-true (allFit (h .0) (leftAt t i) i (ltb a (R .booleans))) _ f in
+      node-none R t i record { kind = k; left = rw (← ea) (all-fits _ _ _ _ (c .0)); right = rw (← eb) (all-fits _ _ _ _ (c .1)) }
+
+  pub fast-some : Fast ≡ false → refusalAt R t i ≡ none → ⊥
+  fast-some f e =
+      let s = node-sound R t i e in
+      let g : Fast ≡ true = rw (ea, eb, fits-all _ _ _ _ (s .left), fits-all _ _ _ _ (s .right)) in
+      not-both Fast g f
+
+pub unknown-some : (R : Rules) (t : List ℕ) (i : ℕ) → known R (kindAt t i) ≡ false → refusalAt R t i ≡ none → ⊥
+unknown-some R t i k e = not-both (known R (kindAt t i)) (node-sound R t i e .kind) k
+
+-- ── The lowest refusal ──
+
+module _ (f : ℕ → Option Refusal) where
+  pub lowest-zero : lowest f 0 ≡ none
+  unfolding lowest
+  lowest-zero = refl
+
+  pub lowest-next : (i : ℕ) → lowest f i ≡ none → f i ≡ none → lowest f (i + 1) ≡ none
+  unfolding lowest
+  lowest-next i e d = rw (add-one i, e, d)
+
+  -- The first that is refused decides.
+  pub lowest-some : (i n : ℕ) (x : Refusal) → i < n → lowest f i ≡ none → f i ≡ some x → lowest f n ≡ some x
+  unfolding lowest
+  lowest-some i zero x h e d = absurd (omega arith)
+  lowest-some i (suc n) x h e d = go (decLt i n) (lowest-some i n x)
+    where
+      go : Dec (i < n) → (i < n → lowest f i ≡ none → f i ≡ some x → lowest f n ≡ some x) → lowest f (suc n) ≡ some x
+      go (yes l) rec = rw (rec l e d)
+      go (no l) rec = let z : i ≡ n = omega arith in rw (subst (λ (m : ℕ). lowest f m ≡ none) z e, subst (λ (m : ℕ). f m ≡ some x) z d)
+
+  pub none-below : (n i : ℕ) → i < n → lowest f n ≡ none → f i ≡ none
+  unfolding lowest
+  none-below zero i h e = absurd (omega arith)
+  none-below (suc n) i h e =
+      let d = or-none (lowest f n) (f n) e in
+      elim (decLt i n) [
+        | yes l ↦ none-below n i l (d .0)
+        | no l ↦ let z : n ≡ i = omega arith in subst (λ (m : ℕ). f m ≡ none) z (d .1)
+      ]
+
+-- ── The whole table ──
+
+-- What the length of a table that is not refused is like.
+pub record Sized (R : Rules) (t : List ℕ) : Type 0 where
+  pub threes : length t % 3 ≡ 0
+  pub some : 0 < count t
+  pub low : count t ≤ R .most
+
+module _ (R : Rules) (t : List ℕ) where
+  pub sized : lengthFits (R .most) (length t) ≡ true → Sized R t
+  sized e =
+      let n = length t in
+      let a = both-true (eqb (n % 3) 0 && ltb 0 (n / 3)) (leb (n / 3) (R .most)) e in
+      let b = both-true (eqb (n % 3) 0) (ltb 0 (n / 3)) (a .0) in
+      record { threes = eqb-true (n % 3) 0 (b .0); some = ltb-true 0 (n / 3) (b .1); low = leb-true (n / 3) (R .most) (a .1) }
+
+  pub refused-length : lengthFits (R .most) (length t) ≡ false → tableRefusal R t ≡ some (refused (R .numbers .length))
+  unfolding tableRefusal
+  refused-length e = rw e
+
+  module _ (e : lengthFits (R .most) (length t) ≡ true) where
+    -- The answer for the first node that is refused is the table's.
+    pub refused-node : (i : ℕ) (a : Checked) → i < count t → lowest (refusalAt R t) i ≡ none → (refusalAt R t i ≡ none → ⊥)
+        → a ≡ checked (refusalAt R t i) → a ≡ checked (tableRefusal R t)
+    unfolding tableRefusal
+    refused-node i a h d f g = go (refusalAt R t i) refl
+      where
+        go : (o : Option Refusal) → refusalAt R t i ≡ o → a ≡ checked (unless (lengthFits (R .most) (length t)) (refused (R .numbers .length)) (lowest (refusalAt R t) (count t)))
+        go none z = absurd (f z)
+        go (some x) z = rw (e, lowest-some (refusalAt R t) i (count t) x h d z) (g ∙ ap checked z)
+
+    pub refused-none : (i : ℕ) → i ≡ count t → lowest (refusalAt R t) i ≡ none → tableRefusal R t ≡ none
+    unfolding tableRefusal
+    refused-none i z d = rw (e) (subst (λ (m : ℕ). lowest (refusalAt R t) m ≡ none) z d)
+
+  module _ (e : tableRefusal R t ≡ none) where
+    parts : (lengthFits (R .most) (length t) ≡ true) × (lowest (refusalAt R t) (count t) ≡ none)
+    unfolding tableRefusal
+    parts = unless-none (lengthFits (R .most) (length t)) _ _ e
+
+    pub table-sized : Sized R t
+    table-sized = sized (parts .0)
+
+    pub table-sound : (i : ℕ) → i < count t → Sound R t i
+    table-sound i h = node-sound R t i (none-below (refusalAt R t) (count t) i h (parts .1))

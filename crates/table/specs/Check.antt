@@ -1,0 +1,132 @@
+-- What both checks share: the first refusal that applies to a table, by its rules.
+use mathlib.Core.Bool.{Bool, true, false, not, cond, _&&_, _||_, Bool·beq}
+use mathlib.Core.Option.{Option, none, some}
+use mathlib.Core.List.{List, [], _∷_}
+use Prim.Native.Nat.{ℕ, zero, suc, _+_, _*_, _/_, _%_}
+use lib.Dec.{eqb, ltb, leb}
+use lib.ListN.{length, getD}
+use Rattle.trace.specs.Letter.{signals}
+use Rattle.trace.specs.declared.Refusal.{Refusal}
+use Rattle.table.specs.declared.Place.{Place}
+use Rattle.table.specs.declared.Shape.{Shape}
+use Rattle.table.specs.declared.Numbers.{Numbers}
+use Rattle.table.specs.declared.Rules.{Rules}
+use Rattle.table.specs.Node.{Node, node, count, kindAt, leftAt, rightAt, nodeAt}
+use Rattle.table.specs.Answer.{refused}
+
+-- ── What a place holds ──
+
+-- A number below a limit, or the number of an operand, Boolean or not.
+abbrev pub below : ℕ → Place
+below m = record { operand = false; boolean = false; limit = m }
+
+abbrev pub operand : Bool → Place
+operand b = record { operand = true; boolean = b; limit = 0 }
+
+abbrev pub unused : Place
+unused = below 1
+
+abbrev pub signal : Place
+signal = below signals
+
+abbrev pub boolean : Place
+boolean = operand true
+
+abbrev pub formula : Place
+formula = operand false
+
+-- The left and the right place of a kind.
+abbrev pub places : Place → Place → Shape
+places l r = record { 0 = l; 1 = r }
+
+-- Where a list of kinds has more room than kinds.
+abbrev pub spare : Shape
+spare = places unused unused
+
+-- ── The tests of a place that holds n ──
+
+-- An unused place, one with the limit 1, holds 0.
+abbrev pub unusedFits : Place → ℕ → Bool
+unusedFits p n = (p .operand || not (eqb (p .limit) 1)) || eqb n 0
+
+-- A signal is below its limit.
+abbrev pub signalFits : Place → ℕ → Bool
+signalFits p n = p .operand || ltb n (p .limit)
+
+-- An operand is below its user, node i.
+abbrev pub operandFits : Place → ℕ → ℕ → Bool
+operandFits p n i = not (p .operand) || ltb n i
+
+-- An operand, Boolean if b, is of the place's sort.
+abbrev pub sortFits : Place → Bool → Bool
+sortFits p b = not (p .operand) || Bool·beq b (p .boolean)
+
+-- All four at once: an unused place and a signal are below their limit.
+abbrev pub allFit : Place → ℕ → ℕ → Bool → Bool
+allFit p n i b = ltb n (cond (p .operand) i (p .limit)) && sortFits p b
+
+-- ── The refusals ──
+
+-- The number of nodes, of n numbers in all.
+abbrev pub lengthFits : ℕ → ℕ → Bool
+lengthFits most n = (eqb (n % 3) 0 && ltb 0 (n / 3)) && leb (n / 3) most
+
+-- How many kinds any table can have.
+abbrev pub mostKinds : ℕ
+mostKinds = 11
+
+abbrev pub known : Rules → ℕ → Bool
+known R k = ltb k (R .kinds) && ltb k mostKinds
+
+-- The shape of a kind; where there is none, nothing fits.
+abbrev pub shapeOf : Rules → ℕ → Shape
+shapeOf R k = getD (R .shapes) k (places (below 0) (below 0))
+
+-- The refusal x unless a test is passed, then o.
+abbrev pub unless : Bool → Refusal → Option Refusal → Option Refusal
+unless true x o = o
+unless false x o = some x
+
+-- The places of node i, its operands being Booleans if lb and rb: both by one test before the next.
+unfoldable pub placesRefusal : Numbers → Shape → ℕ → ℕ → ℕ → Bool → Bool → Option Refusal
+placesRefusal x h i l r lb rb =
+    let p = h .0 in
+    let q = h .1 in
+    unless (unusedFits p l && unusedFits q r) (refused (x .unused))
+    (unless (signalFits p l && signalFits q r) (refused (x .signal))
+    (unless (operandFits p l i && operandFits q r i) (refused (x .operand))
+    (unless (sortFits p lb && sortFits q rb) (refused (x .sort)) none)))
+
+-- Node i: first its kind.
+unfoldable pub nodeRefusal : Rules → ℕ → Node → Bool → Bool → Option Refusal
+nodeRefusal R i (node k l r) lb rb =
+    unless (known R k) (refused (R .numbers .kind)) (placesRefusal (R .numbers) (shapeOf R k) i l r lb rb)
+
+-- The first kinds of a table are its Booleans.
+abbrev pub isBoolean : Rules → List ℕ → ℕ → Bool
+isBoolean R t i = ltb (kindAt t i) (R .booleans)
+
+unfoldable pub refusalAt : Rules → List ℕ → ℕ → Option Refusal
+refusalAt R t i = nodeRefusal R i (nodeAt t i) (isBoolean R t (leftAt t i)) (isBoolean R t (rightAt t i))
+
+-- The first refusal of two, and the first of those for the numbers below n.
+abbrev pub orElse : Option Refusal → Option Refusal → Option Refusal
+orElse none o = o
+orElse (some x) o = some x
+
+unfoldable pub lowest : (ℕ → Option Refusal) → ℕ → Option Refusal
+lowest f zero = none
+lowest f (suc n) = orElse (lowest f n) (f n)
+
+-- The length first, then the lowest node that is refused.
+unfoldable pub tableRefusal : Rules → List ℕ → Option Refusal
+tableRefusal R t =
+    unless (lengthFits (R .most) (length t)) (refused (R .numbers .length))
+    (lowest (refusalAt R t) (count t))
+
+-- ── Sums ──
+
+-- The sum over the numbers below n.
+unfoldable pub total : (ℕ → ℕ) → ℕ → ℕ
+total f zero = 0
+total f (suc n) = total f n + f n
