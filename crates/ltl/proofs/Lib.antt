@@ -1,3 +1,4 @@
 pub mod KnownLaw
 pub mod TreeLaw
 pub mod SoundLaw
+pub mod AcceptedLaw

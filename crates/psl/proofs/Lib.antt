@@ -5,3 +5,4 @@ pub mod EndLaw
 pub mod PartLaw
 pub mod SoundLaw
 pub mod CheckLaw
+pub mod AcceptedLaw
