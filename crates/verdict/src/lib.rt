@@ -1,5 +1,6 @@
 // The two verdicts.
 ghost use mathlib.Core.Path.{_≡_};
+ghost use mathlib.Core.Bool.{cond};
 ghost use mathlib.Core.Logic.{_↔_};
 ghost use Prim.Native.Nat.{_-_, _<_, _≤_};
 ghost use lib.Dec.{T};
@@ -18,10 +19,14 @@ ghost use Rattle.psl.specs.Empty.{onEmpty};
 ghost use Rattle.translate.specs.Translation.{treeB};
 ghost use Rattle.rows.specs.Rows.{Tells, Few};
 ghost use Rattle.verdict.specs.Rows.{TellsFormula};
+ghost use Rattle.verdict.specs.Verdict.{PslJudges, LtlJudges};
 use rows::ALWAYS;
+use rows::MOST_LETTERS;
 use rows::Row;
+use table::Checked;
 use table::NodeNo;
 use trace::Letter;
+use trace::Refusal;
 
 // The row of a Boolean.
 fn boolean_row(t: &[u16], i: NodeNo, lead: &[Letter], cycle: &[Letter]) -> Row
@@ -135,4 +140,51 @@ pub fn psl_holds(t: &[u16], lead: &[Letter], cycle: &[Letter]) -> bool
         return on_empty(t, root);
     }
     rows::at_first(formula_row(t, root, 0, 0, lead, cycle))
+}
+
+pub enum Verdict {
+    Yes,
+    No,
+    Refused(Refusal),
+}
+
+// Yes or no.
+fn decided(b: bool) -> Verdict
+    ensures { λ v. ⌜ v ≡ cond b Verdict.Yes Verdict.No ⌝ }
+{
+    if b { Verdict::Yes } else { Verdict::No }
+}
+
+// Refusals 1 to 8, then 9.
+pub fn psl_verdict(t: &[u16], lead: &[Letter], cycle: &[Letter]) -> Verdict
+    ensures { λ v. ⌜ PslJudges (now (t .entry)) (now (lead .entry)) (now (cycle .entry)) v ⌝ }
+{
+    match psl::check_psl(t) {
+        Checked::Refused(x) => Verdict::Refused(x),
+        Checked::Accepted => {
+            if MOST_LETTERS < lead.len() + cycle.len() {
+                return Verdict::Refused(Refusal(9));
+            }
+            decided(psl_holds(t, lead, cycle))
+        }
+    }
+}
+
+// Refusals 11 to 15, then 9, then 16.
+pub fn ltl_verdict(t: &[u16], lead: &[Letter], cycle: &[Letter]) -> Verdict
+    ensures { λ v. ⌜ LtlJudges (now (t .entry)) (now (lead .entry)) (now (cycle .entry)) v ⌝ }
+{
+    match ltl::check_ltl(t) {
+        Checked::Refused(x) => Verdict::Refused(x),
+        Checked::Accepted => {
+            let letters = lead.len() + cycle.len();
+            if MOST_LETTERS < letters {
+                return Verdict::Refused(Refusal(9));
+            }
+            if letters == 0 {
+                return Verdict::Refused(Refusal(16));
+            }
+            decided(ltl_holds(t, lead, cycle))
+        }
+    }
 }
