@@ -1,3 +1,4 @@
 pub mod NodeLaw
 pub mod CheckLaw
 pub mod KindLaw
+pub mod ValueLaw
