@@ -1,3 +1,4 @@
 pub mod OrderLaw
 pub mod KnownLaw
 pub mod CheckLaw
+pub mod PartLaw

@@ -3,3 +3,4 @@ pub mod Meaning
 pub mod Table
 pub mod Known
 pub mod Check
+pub mod Parts
