@@ -1,38 +1,61 @@
--- What an accepted LTL table gives: its nodes fit together, and it has a node and not too many.
-use mathlib.Core.Path.{_≡_}
+-- What an accepted LTL table gives to those that walk over it: its size, and that the numbers of its nodes are below their own.
+use Prim.Native.Nat.{ℕ, _+_, _*_, _≤_, _<_}
+use mathlib.Core.Path.{_≡_, refl}
 use mathlib.Core.Option.{none}
 use mathlib.Core.List.{List}
-use Prim.Native.Nat.{ℕ, _*_, _≤_, _<_}
+use native.Mathlib.Omega.{arith}
 use lib.ListN.{length}
+use Rattle.trace.specs.Letter.{signals}
 use Rattle.table.specs.Node.{count, kindAt, leftAt, rightAt}
 use Rattle.table.specs.Check.{shapeOf, isBoolean}
-use Rattle.table.proofs.CheckLaw.{Fits, known-kind}
-use Rattle.table.proofs.KindLaw.{each, end, _⨾_}
-use Rattle.table.proofs.AcceptedLaw.{each-node, in-threes, some-node, most-nodes, fits-unused}
+use Rattle.table.proofs.CheckLaw.{Fits, table-sized, kind-in, left-fits, right-fits}
+use Rattle.table.proofs.KindLaw.{each, _⨾_}
 use Rattle.ltl.specs.Check.{ltlRules, ltlRefusal}
-use Rattle.ltl.specs.Sound.{operandsFit, FitsKind, Sound}
 
-sound : (t : List ℕ) → ltlRefusal t ≡ none → Sound t
-unfolding operandsFit
-sound t e i h =
-    let s = each-node ltlRules t e i h in
-    let x = leftAt t i in
-    let y = rightAt t i in
-    each (λ k. Fits (shapeOf ltlRules k .0) x i (isBoolean ltlRules t x) → Fits (shapeOf ltlRules k .1) y i (isBoolean ltlRules t y) → FitsKind t i k) 7
-    ((λ l r. (fits-unused l, fits-unused r))
-    ⨾ (λ l r. (l .low, fits-unused r))
-    ⨾ (λ l r. (l .low, fits-unused r))
-    ⨾ (λ l r. (l .low, r .low))
-    ⨾ (λ l r. (l .low, r .low))
-    ⨾ (λ l r. (l .low, fits-unused r))
-    ⨾ (λ l r. (l .low, r .low))
-    ⨾ end) (kindAt t i) (known-kind ltlRules (kindAt t i) (s .kind)) (s .left) (s .right)
+module _ (t : List ℕ) (fine : ltlRefusal t ≡ none) where
+  pub some-node : 0 < count t
+  some-node = table-sized ltlRules t fine .some
 
-pub record Accepted (t : List ℕ) : Type 0 where
-  pub nodes : Sound t
-  pub threes : 3 * count t ≡ length t
-  pub some : 0 < count t
-  pub most : count t ≤ 4096
+  pub most-nodes : count t ≤ 4096
+  most-nodes = table-sized ltlRules t fine .low
 
-pub accepted : (t : List ℕ) → ltlRefusal t ≡ none → Accepted t
-accepted t e = record { nodes = sound t e; threes = in-threes ltlRules t e; some = some-node ltlRules t e; most = most-nodes ltlRules t e }
+  module _ (i : ℕ) (inside : i < count t) where
+    pub is-var : kindAt t i ≡ 1 → leftAt t i < signals
+    is-var e = left-fits ltlRules t fine i inside 1 e .low
+
+    abbrev Left : ℕ → Type 0
+    Left k = Fits (shapeOf ltlRules k .0) (leftAt t i) i (isBoolean ltlRules t (leftAt t i))
+
+    abbrev Right : ℕ → Type 0
+    Right k = Fits (shapeOf ltlRules k .1) (rightAt t i) i (isBoolean ltlRules t (rightAt t i))
+
+    -- From kind 2 on both numbers are below the node's own: an unused one is 0.
+    abbrev Below : ℕ → Type 0
+    Below k = Left k → Right k → 2 ≤ k → (leftAt t i < i) × (rightAt t i < i)
+
+    pub both-below : 2 ≤ kindAt t i → (leftAt t i < i) × (rightAt t i < i)
+    both-below =
+        each Below 7
+        ((λ x y h. absurd (omega arith))
+        ⨾ (λ x y h. absurd (omega arith))
+        ⨾ (λ x y h. (x .low, omega (arith, x .low, y .low)))
+        ⨾ (λ x y h. (x .low, y .low))
+        ⨾ (λ x y h. (x .low, y .low))
+        ⨾ (λ x y h. (x .low, omega (arith, x .low, y .low)))
+        ⨾ (λ x y h. (x .low, y .low))
+        ⨾ tt) (kindAt t i) (kind-in ltlRules t fine i inside) (left-fits ltlRules t fine i inside (kindAt t i) refl)
+        (right-fits ltlRules t fine i inside (kindAt t i) refl)
+
+    -- Both are below any bound on the signals and on the node's own.
+    pub below-any : (m : ℕ) → signals ≤ m → i < m → (leftAt t i < m) × (rightAt t i < m)
+    below-any m s n =
+        each (λ k. Left k → Right k → (leftAt t i < m) × (rightAt t i < m)) 7
+        ((λ x y. (omega (arith, x .low), omega (arith, y .low)))
+        ⨾ (λ x y. (omega (arith, x .low), omega (arith, y .low)))
+        ⨾ (λ x y. (omega (arith, x .low), omega (arith, y .low)))
+        ⨾ (λ x y. (omega (arith, x .low), omega (arith, y .low)))
+        ⨾ (λ x y. (omega (arith, x .low), omega (arith, y .low)))
+        ⨾ (λ x y. (omega (arith, x .low), omega (arith, y .low)))
+        ⨾ (λ x y. (omega (arith, x .low), omega (arith, y .low)))
+        ⨾ tt) (kindAt t i) (kind-in ltlRules t fine i inside) (left-fits ltlRules t fine i inside (kindAt t i) refl)
+        (right-fits ltlRules t fine i inside (kindAt t i) refl)

@@ -1,4 +1,2 @@
 pub mod KnownLaw
-pub mod TreeLaw
-pub mod SoundLaw
 pub mod AcceptedLaw

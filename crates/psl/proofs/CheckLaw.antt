@@ -28,7 +28,7 @@ one-low : (b : Bool) → one b ≤ 1
 one-low true = omega arith
 one-low false = omega arith
 
-names-same : (o : Bool) (n : ℕ) → one (o && eqb n n) ≡ one o
+pub names-same : (o : Bool) (n : ℕ) → one (o && eqb n n) ≡ one o
 names-same true n = ap one (eq-eqb n n refl)
 names-same false n = refl
 
@@ -175,3 +175,24 @@ psl-first t x e = rw e
 pub psl-then : (t : List ℕ) → tableRefusal pslRules t ≡ none → pslRefusal t ≡ treeRefusal t
 unfolding pslRefusal
 psl-then t e = rw e
+
+-- ── What an accepted table is like, besides its nodes ──
+
+module _ (t : List ℕ) (e : pslRefusal t ≡ none) where
+  parts : (tableRefusal pslRules t ≡ none) × (lowest (useRefusal t) (count t - 1) ≡ none) × (rootRefusal t ≡ none)
+  unfolding pslRefusal treeRefusal
+  parts =
+      let a = or-none (tableRefusal pslRules t) _ e in
+      let b = or-none (lowest (useRefusal t) (count t - 1)) (rootRefusal t) (a .1) in
+      (a .0, b .0, b .1)
+
+  pub psl-table : tableRefusal pslRules t ≡ none
+  psl-table = parts .0
+
+  pub psl-used : (j : ℕ) → j < count t - 1 → uses t j ≡ 1
+  unfolding useRefusal
+  psl-used j h = eqb-true (uses t j) 1 (unless-none (eqb (uses t j) 1) _ none (none-below (useRefusal t) (count t - 1) j h (parts .1)) .0)
+
+  pub psl-root : isBoolean pslRules t (count t - 1) ≡ false
+  unfolding rootRefusal
+  psl-root = not-true (isBoolean pslRules t (count t - 1)) (unless-none (not (isBoolean pslRules t (count t - 1))) _ none (parts .2) .0)

@@ -1,76 +1,127 @@
--- What a node of a PSL table stands for, kind by kind, where its operands are below it.
-use Prim.Native.Nat.{ℕ, _+_, _*_, _-_, _≤_, _<_}
-use mathlib.Core.Path.{_≡_, refl, sym, ap, ap₂, _∙_}
+-- What a node of a table stands for that the first PSL tests do not refuse: by its kind and its operands, and of its sort.
+use Prim.Native.Nat.{ℕ, _-_, _<_}
+use mathlib.Core.Path.{_≡_, refl, sym, ap, subst, _∙_}
+use mathlib.Core.Bool.{Bool, true, false}
 use mathlib.Core.List.{List}
-use lib.ListN.{length}
-use Rattle.table.specs.Node.{Node, node, count, kindAt, leftAt, rightAt}
-use Rattle.table.proofs.NodeLaw.{root-at, value-by}
+use mathlib.Core.Option.{none}
+use native.Mathlib.Omega.{arith}
+use lib.Dec.{ltb}
+use Rattle.table.specs.declared.Place.{Place}
+use Rattle.table.specs.Node.{node, count, kindAt, leftAt, rightAt, nodeAt}
+use Rattle.table.specs.Check.{shapeOf, isBoolean, tableRefusal}
+use Rattle.table.proofs.CheckLaw.{Fits, fit-below, fit-sort, kind-in, left-fits, right-fits}
+use Rattle.table.proofs.KindLaw.{_⨾_, each}
+use Rattle.table.proofs.ValueLaw.{Same, Local, root-value, value-of}
 use Rattle.psl.specs.Formula.{BoolExpr, btrue, var, bnot, band, Formula, weak, strong, fnot, fand, next, until, abort}
 use Rattle.psl.specs.Table.{Part, boolean, formula, asBoolean, asFormula, partOf, formulaOf}
+use Rattle.psl.specs.Check.{pslRules}
 use Rattle.psl.specs.Parts.{partAt, booleanAt, formulaAt}
 
-pub formula-root : (t : List ℕ) → formulaOf t ≡ formulaAt t (count t - 1)
+-- ── By its operands ──
+
+part-local : Local pslRules partOf
+unfolding partOf
+part-local x y l r =
+    each (λ k. Same (shapeOf pslRules k .0) x y l → Same (shapeOf pslRules k .1) x y r → partOf x (node k l r) ≡ partOf y (node k l r)) 11
+    ((λ p q. refl)
+    ⨾ (λ p q. refl)
+    ⨾ (λ p q. rw (p refl))
+    ⨾ (λ p q. rw (p refl, q refl))
+    ⨾ (λ p q. rw (p refl))
+    ⨾ (λ p q. rw (p refl))
+    ⨾ (λ p q. rw (p refl))
+    ⨾ (λ p q. rw (p refl, q refl))
+    ⨾ (λ p q. rw (p refl))
+    ⨾ (λ p q. rw (p refl, q refl))
+    ⨾ (λ p q. rw (p refl, q refl))
+    ⨾ tt)
+
+-- ── Of its sort ──
+
+-- A part is a Boolean if b, else a formula.
+abbrev pub Sorted : Bool → Part → Type 0
+Sorted true x = x ≡ boolean (asBoolean x)
+Sorted false x = x ≡ formula (asFormula x)
+
+kind-sort : (x : ℕ → Part) (l r k : ℕ) → k < 11 → Sorted (ltb k (pslRules .booleans)) (partOf x (node k l r))
+unfolding partOf
+kind-sort x l r =
+    each (λ k. Sorted (ltb k (pslRules .booleans)) (partOf x (node k l r))) 11
+    (refl ⨾ refl ⨾ refl ⨾ refl ⨾ refl ⨾ refl ⨾ refl ⨾ refl ⨾ refl ⨾ refl ⨾ refl ⨾ tt)
+
+pub part-root : (t : List ℕ) → formulaOf t ≡ formulaAt t (count t - 1)
 unfolding formulaOf partAt
-formula-root t = ap asFormula (root-at (boolean btrue) partOf t)
+part-root t = ap asFormula (root-value (boolean btrue) partOf t)
 
-module _ (t : List ℕ) (i : ℕ) (within : 3 * i + 3 ≤ length t) where
-  -- The part by parts x that agree with the table's below i.
-  by : (x : ℕ → Part) × (partAt t i ≡ partOf x (node (kindAt t i) (leftAt t i) (rightAt t i))) × ((j : ℕ) → j < i → x j ≡ partAt t j)
+module _ (t : List ℕ) (e : tableRefusal pslRules t ≡ none) where
+  pub part-node : (i : ℕ) → i < count t → partAt t i ≡ partOf (partAt t) (nodeAt t i)
   unfolding partAt
-  by = value-by (boolean btrue) partOf t i within
+  part-node i h = value-of (boolean btrue) partOf t pslRules part-local e i h
 
-  -- The same where the kind is known.
-  is-kind : (k : ℕ) → kindAt t i ≡ k → partAt t i ≡ partOf (by .0) (node k (leftAt t i) (rightAt t i))
-  is-kind k e = by .1 ∙ ap (λ (n : ℕ). partOf (by .0) (node n (leftAt t i) (rightAt t i))) e
+  pub part-sort : (i : ℕ) → i < count t → Sorted (isBoolean pslRules t i) (partAt t i)
+  part-sort i h =
+      subst (Sorted (isBoolean pslRules t i)) (sym (part-node i h))
+      (kind-sort (partAt t) (leftAt t i) (rightAt t i) (kindAt t i) (kind-in pslRules t e i h))
 
-  pub at-true : kindAt t i ≡ 0 → partAt t i ≡ boolean btrue
-  unfolding partOf
-  at-true e = is-kind 0 e
+  -- Of an operand, that of its place.
+  pub operand-sort : (p : Place) (n i : ℕ) → i < count t → Fits p n i (isBoolean pslRules t n) → p .operand ≡ true → Sorted (p .boolean) (partAt t n)
+  operand-sort p n i h f o =
+      let l = fit-below f o in
+      subst (λ (b : Bool). Sorted b (partAt t n)) (fit-sort f o) (part-sort n (omega arith))
 
-  pub at-var : kindAt t i ≡ 1 → partAt t i ≡ boolean (var (leftAt t i))
-  unfolding partOf
-  at-var e = is-kind 1 e
+  -- ── Kind by kind ──
 
-  module _ (below : leftAt t i < i) where
-    left : by .0 (leftAt t i) ≡ partAt t (leftAt t i)
-    left = by .2 (leftAt t i) below
+  module _ (i : ℕ) (h : i < count t) where
+    -- The sorts of the operands, where k has such: `left-part 3 q refl` for kind 3.
+    pub left-part : (k : ℕ) → kindAt t i ≡ k → shapeOf pslRules k .0 .operand ≡ true → Sorted (shapeOf pslRules k .0 .boolean) (partAt t (leftAt t i))
+    left-part k q o = operand-sort (shapeOf pslRules k .0) (leftAt t i) i h (left-fits pslRules t e i h k q) o
 
-    pub at-bnot : kindAt t i ≡ 2 → partAt t i ≡ boolean (bnot (booleanAt t (leftAt t i)))
+    pub right-part : (k : ℕ) → kindAt t i ≡ k → shapeOf pslRules k .1 .operand ≡ true → Sorted (shapeOf pslRules k .1 .boolean) (partAt t (rightAt t i))
+    right-part k q o = operand-sort (shapeOf pslRules k .1) (rightAt t i) i h (right-fits pslRules t e i h k q) o
+
+    part-kind : (k : ℕ) → kindAt t i ≡ k → partAt t i ≡ partOf (partAt t) (node k (leftAt t i) (rightAt t i))
+    part-kind k q = part-node i h ∙ ap (λ (m : ℕ). partOf (partAt t) (node m (leftAt t i) (rightAt t i))) q
+
+    pub part-true : kindAt t i ≡ 0 → partAt t i ≡ boolean btrue
     unfolding partOf
-    at-bnot e = is-kind 2 e ∙ ap (λ (p : Part). boolean (bnot (asBoolean p))) left
+    part-true q = part-kind 0 q
 
-    pub at-weak : kindAt t i ≡ 4 → partAt t i ≡ formula (weak (booleanAt t (leftAt t i)))
+    pub part-var : kindAt t i ≡ 1 → partAt t i ≡ boolean (var (leftAt t i))
     unfolding partOf
-    at-weak e = is-kind 4 e ∙ ap (λ (p : Part). formula (weak (asBoolean p))) left
+    part-var q = part-kind 1 q
 
-    pub at-strong : kindAt t i ≡ 5 → partAt t i ≡ formula (strong (booleanAt t (leftAt t i)))
+    pub part-bnot : kindAt t i ≡ 2 → partAt t i ≡ boolean (bnot (booleanAt t (leftAt t i)))
     unfolding partOf
-    at-strong e = is-kind 5 e ∙ ap (λ (p : Part). formula (strong (asBoolean p))) left
+    part-bnot q = part-kind 2 q
 
-    pub at-not : kindAt t i ≡ 6 → partAt t i ≡ formula (fnot (formulaAt t (leftAt t i)))
+    pub part-band : kindAt t i ≡ 3 → partAt t i ≡ boolean (band (booleanAt t (leftAt t i)) (booleanAt t (rightAt t i)))
     unfolding partOf
-    at-not e = is-kind 6 e ∙ ap (λ (p : Part). formula (fnot (asFormula p))) left
+    part-band q = part-kind 3 q
 
-    pub at-next : kindAt t i ≡ 8 → partAt t i ≡ formula (next (formulaAt t (leftAt t i)))
+    pub part-weak : kindAt t i ≡ 4 → partAt t i ≡ formula (weak (booleanAt t (leftAt t i)))
     unfolding partOf
-    at-next e = is-kind 8 e ∙ ap (λ (p : Part). formula (next (asFormula p))) left
+    part-weak q = part-kind 4 q
 
-    module _ (below′ : rightAt t i < i) where
-      right : by .0 (rightAt t i) ≡ partAt t (rightAt t i)
-      right = by .2 (rightAt t i) below′
+    pub part-strong : kindAt t i ≡ 5 → partAt t i ≡ formula (strong (booleanAt t (leftAt t i)))
+    unfolding partOf
+    part-strong q = part-kind 5 q
 
-      pub at-band : kindAt t i ≡ 3 → partAt t i ≡ boolean (band (booleanAt t (leftAt t i)) (booleanAt t (rightAt t i)))
-      unfolding partOf
-      at-band e = is-kind 3 e ∙ ap₂ (λ (p q : Part). boolean (band (asBoolean p) (asBoolean q))) left right
+    pub part-not : kindAt t i ≡ 6 → partAt t i ≡ formula (fnot (formulaAt t (leftAt t i)))
+    unfolding partOf
+    part-not q = part-kind 6 q
 
-      pub at-and : kindAt t i ≡ 7 → partAt t i ≡ formula (fand (formulaAt t (leftAt t i)) (formulaAt t (rightAt t i)))
-      unfolding partOf
-      at-and e = is-kind 7 e ∙ ap₂ (λ (p q : Part). formula (fand (asFormula p) (asFormula q))) left right
+    pub part-and : kindAt t i ≡ 7 → partAt t i ≡ formula (fand (formulaAt t (leftAt t i)) (formulaAt t (rightAt t i)))
+    unfolding partOf
+    part-and q = part-kind 7 q
 
-      pub at-until : kindAt t i ≡ 9 → partAt t i ≡ formula (until (formulaAt t (leftAt t i)) (formulaAt t (rightAt t i)))
-      unfolding partOf
-      at-until e = is-kind 9 e ∙ ap₂ (λ (p q : Part). formula (until (asFormula p) (asFormula q))) left right
+    pub part-next : kindAt t i ≡ 8 → partAt t i ≡ formula (next (formulaAt t (leftAt t i)))
+    unfolding partOf
+    part-next q = part-kind 8 q
 
-      pub at-abort : kindAt t i ≡ 10 → partAt t i ≡ formula (abort (formulaAt t (leftAt t i)) (booleanAt t (rightAt t i)))
-      unfolding partOf
-      at-abort e = is-kind 10 e ∙ ap₂ (λ (p q : Part). formula (abort (asFormula p) (asBoolean q))) left right
+    pub part-until : kindAt t i ≡ 9 → partAt t i ≡ formula (until (formulaAt t (leftAt t i)) (formulaAt t (rightAt t i)))
+    unfolding partOf
+    part-until q = part-kind 9 q
+
+    pub part-abort : kindAt t i ≡ 10 → partAt t i ≡ formula (abort (formulaAt t (leftAt t i)) (booleanAt t (rightAt t i)))
+    unfolding partOf
+    part-abort q = part-kind 10 q

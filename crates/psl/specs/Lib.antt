@@ -4,5 +4,4 @@ pub mod Empty
 pub mod Table
 pub mod Parts
 pub mod Check
-pub mod Sound
 pub mod Known

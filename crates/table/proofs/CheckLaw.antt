@@ -1,6 +1,6 @@
 -- Laws of the check that both tables share: when a node is refused, which refusal decides, and what a table that is not refused is like.
 use mathlib.Core.Path.{_≡_, refl, sym, ap, _∙_, subst}
-use mathlib.Core.Bool.{Bool, true, false, not, cond, _&&_, _||_}
+use mathlib.Core.Bool.{Bool, true, false, not, cond, _&&_, _||_, Bool·beq}
 use mathlib.Core.Option.{Option, none, some}
 use mathlib.Core.List.{List}
 use Prim.Native.Nat.{ℕ, zero, suc, _+_, _*_, _/_, _%_, _≤_, _<_}
@@ -84,6 +84,20 @@ all-fits p n i b e =
 
 fits-all : (p : Place) (n i : ℕ) (b : Bool) → Fits p n i b → allFit p n i b ≡ true
 fits-all p n i b f = rw (lt-ltb n (cond (p .operand) i (p .limit)) (f .low)) (f .sort)
+
+-- The sort of an operand.
+sort-is : (o b m : Bool) → not o || Bool·beq b m ≡ true → o ≡ true → b ≡ m
+sort-is true true true e d = refl
+sort-is true true false e d = sym e
+sort-is true false true e d = e
+sort-is true false false e d = refl
+sort-is false b m e d = absurd (not-both true refl (sym d))
+
+pub fit-sort : {p : Place} {n i : ℕ} {b : Bool} → Fits p n i b → p .operand ≡ true → b ≡ p .boolean
+fit-sort {p} {n} {i} {b} f d = sort-is (p .operand) b (p .boolean) (f .sort) d
+
+pub fit-below : {p : Place} {n i : ℕ} {b : Bool} → Fits p n i b → p .operand ≡ true → n < i
+fit-below {p} {n} {i} f d = subst (λ (o : Bool). n < cond o i (p .limit)) d (f .low)
 
 -- ── A node ──
 
@@ -247,3 +261,17 @@ module _ (R : Rules) (t : List ℕ) where
 
     pub table-sound : (i : ℕ) → i < count t → Sound R t i
     table-sound i h = node-sound R t i (none-below (refusalAt R t) (count t) i h (parts .1))
+
+    -- For callers: node i of a table that is not refused, by its kind.
+    module _ (i : ℕ) (h : i < count t) where
+      pub kind-in : kindAt t i < R .kinds
+      kind-in = known-kind R (kindAt t i) (table-sound i h .kind)
+
+      pub left-fits : (k : ℕ) → kindAt t i ≡ k → Fits (shapeOf R k .0) (leftAt t i) i (isBoolean R t (leftAt t i))
+      left-fits k q = subst (λ (m : ℕ). Fits (shapeOf R m .0) (leftAt t i) i (isBoolean R t (leftAt t i))) q (table-sound i h .left)
+
+      pub right-fits : (k : ℕ) → kindAt t i ≡ k → Fits (shapeOf R k .1) (rightAt t i) i (isBoolean R t (rightAt t i))
+      right-fits k q = subst (λ (m : ℕ). Fits (shapeOf R m .1) (rightAt t i) i (isBoolean R t (rightAt t i))) q (table-sound i h .right)
+
+      pub node-in : 3 * (i + 1) ≤ length t
+      node-in = omega arith

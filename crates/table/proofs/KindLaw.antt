@@ -1,5 +1,5 @@
 -- A claim about every number below n, from one proof a number: claims about kinds, kind by kind.
-use Prim.Native.Nat.{ℕ, zero, suc, _+_, _≤_, _<_}
+use Prim.Native.Nat.{ℕ, zero, suc, _<_}
 use mathlib.Core.Path.{_≡_, subst}
 use mathlib.Core.Bool.{Bool, true, _&&_}
 use native.Mathlib.Omega.{arith}
@@ -7,17 +7,17 @@ use native.Mathlib.Decide.{ℕ-discrete}
 use Rattle.table.proofs.CheckLaw.{both-true}
 
 infixr 5 _⨾_
-pub data Each (P : ℕ → Type 0) : ℕ → ℕ → Type 0 where
-  end : {k : ℕ} → Each P k 0
-  _⨾_ : {k n : ℕ} → P k → Each P (suc k) n → Each P k (suc n)
+pub data Both (A B : Type 0) : Type 0 where
+  _⨾_ : A → B → Both A B
 
-from : {P : ℕ → Type 0} {k n : ℕ} → Each P k n → (j : ℕ) → k ≤ j → j < k + n → P j
-from end j h l = absurd (omega arith)
-from {P} {k} (p ⨾ ps) j h l =
-    elim (ℕ-discrete k j) [ yes e ↦ subst P e p | no e ↦ from ps j (omega arith) (omega arith) ]
+abbrev pub Each : (ℕ → Type 0) → ℕ → Type 0
+Each P zero = Unit {0}
+Each P (suc n) = Both (P zero) (Each (λ k. P (suc k)) n)
 
-pub each : (P : ℕ → Type 0) (n : ℕ) → Each P 0 n → (j : ℕ) → j < n → P j
-each P n ps j h = from ps j (omega arith) (omega arith)
+pub each : (P : ℕ → Type 0) (n : ℕ) → Each P n → (j : ℕ) → j < n → P j
+each P zero ps j h = absurd (omega arith)
+each P (suc n) (p ⨾ ps) zero h = p
+each P (suc n) (p ⨾ ps) (suc j) h = each (λ k. P (suc k)) n ps j (omega arith)
 
 -- The same by a test that computes.
 abbrev pub all : (ℕ → Bool) → ℕ → Bool

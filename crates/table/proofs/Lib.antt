@@ -1,5 +1,5 @@
 pub mod NodeLaw
-pub mod ClaimLaw
 pub mod CheckLaw
 pub mod KindLaw
-pub mod AcceptedLaw
+pub mod ValueLaw
+pub mod SumLaw

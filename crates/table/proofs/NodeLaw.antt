@@ -5,7 +5,7 @@ use mathlib.Core.List.{List, [], _∷_, _++_}
 use native.Mathlib.Omega.{arith}
 use lib.ListN.{length, getD, take, drop, take-append-drop, length-take, length-append, List·getD-append}
 use lib.Seq.{getD-at}
-use Rattle.table.specs.Node.{Node, node, nodesOf, numbersOf, count, kindAt, leftAt, rightAt, _▸_, last, look, grow, values, root, valueAt}
+use Rattle.table.specs.Node.{Node, node, nodesOf, numbersOf, count, kindAt, leftAt, rightAt, _▸_, last, look, grow, values}
 
 -- ── Numbers and nodes ──
 
@@ -83,24 +83,6 @@ module _ {A : Type 0} (d : A) (make : (ℕ → A) → Node → A) where
   pub value-node : (ns : List Node) (i : ℕ) → i < length ns
       → look d make (grow d make [] ns) i ≡ make (look d make (grow d make [] (take i ns))) (getD ns i (node 0 0 0))
   value-node ns i h = ap (look d make (grow d make [] ns)) (omega arith) ∙ grow-node ns [] i h
-
-  pub length-values : (t : List ℕ) → length (values d make t) ≡ count t
-  length-values t = length-grow [] (nodesOf t) ∙ omega (arith, length-nodes t)
-
-  -- The root is the last node.
-  pub root-at : (t : List ℕ) → root d make t ≡ valueAt d make t (count t - 1)
-  root-at t = ap (valueAt d make t) (omega (arith, length-values t))
-
-  -- Node i's value, by values x that agree with the table's below i.
-  pub value-by : (t : List ℕ) (i : ℕ) → 3 * i + 3 ≤ length t
-      → (x : ℕ → A) × (valueAt d make t i ≡ make x (node (kindAt t i) (leftAt t i) (rightAt t i))) × ((j : ℕ) → j < i → x j ≡ valueAt d make t j)
-  value-by t i h =
-      let l = length-nodes t in
-      let ns = nodesOf t in (
-        look d make (grow d make [] (take i ns)),
-        value-node ns i (omega arith) ∙ ap (make (look d make (grow d make [] (take i ns)))) (node-at t i h),
-        λ j u. look-take ns i j u (omega arith),
-      )
 
   -- ── A list of nodes that grows at its end ──
 

@@ -1,5 +1,6 @@
 -- The arms of the translator's walk: what each stores, by what its node stands for.
 use mathlib.Core.Path.{_≡_, refl, sym, ap, subst, _∙_}
+use mathlib.Core.Option.{none}
 use mathlib.Core.List.{List}
 use Prim.Native.Nat.{ℕ, zero, suc, _+_, _-_, _≤_, _<_}
 use mathlib.Core.Bool.{cond}
@@ -8,9 +9,9 @@ use lib.Dec.{eqb}
 use native.Mathlib.Decide.{decLt}
 use Rattle.table.specs.Node.{Node, node, _▸_, count, kindAt, leftAt, rightAt}
 use Rattle.psl.specs.Formula.{BoolExpr, btrue, var, bnot, band, Formula, weak, strong, fnot, fand, next, until, abort, weighB, weigh}
+use Rattle.psl.specs.Check.{pslRefusal}
 use Rattle.psl.specs.Parts.{booleanAt, formulaAt}
-use Rattle.psl.specs.Sound.{Boolean, Formula as IsFormula, Sound}
-use Rattle.psl.proofs.SoundLaw.{kind-known, is-bnot, is-band, is-weak, is-strong, is-and, is-until}
+use Rattle.psl.proofs.AcceptedLaw.{Boolean, Formula as IsFormula, kind-known, is-bnot, is-band, is-weak, is-strong, is-and, is-until}
 use Rattle.translate.specs.Emitted.{notN, andN, nextN, untilN, adds, walkB, gate, literal, walk}
 use Rattle.translate.specs.Stored.{Walks}
 use Rattle.translate.proofs.StoredLaw.{walks-then, walks-both}
@@ -117,7 +118,7 @@ pub arm-literal : (b : BoolExpr) (a r : ℕ) {n m p : ℕ} {old mid now : List �
 arm-literal b a r w v = walks-then (λ i. gate i a r) refl w v
 
 -- The left operand of a bnot or a band, and that its nodes are fewer.
-pub left-boolean : (t : List ℕ) → Sound t → (i : ℕ) → i < count t → (kindAt t i ≡ 0 → ⊥) → (kindAt t i ≡ 1 → ⊥) → kindAt t i < 4
+pub left-boolean : (t : List ℕ) → pslRefusal t ≡ none → (i : ℕ) → i < count t → (kindAt t i ≡ 0 → ⊥) → (kindAt t i ≡ 1 → ⊥) → kindAt t i < 4
     → Boolean t i (leftAt t i) × (weighB adds (booleanAt t (leftAt t i)) + 1 ≤ weighB adds (booleanAt t i))
 left-boolean t s i h n0 n1 u = go (decLt (kindAt t i) 3)
   where
@@ -179,7 +180,7 @@ pub record Literal (t : List ℕ) (i : ℕ) : Type 0 where
   pub arm : (a r : ℕ) {n m : ℕ} {old now : List ℕ} → Walks (weighB adds (booleanAt t (leftAt t i)) + 3) (literal (booleanAt t (leftAt t i)) a r) n m old now
       → WalksF (formulaAt t i) a r n m old now
 
-pub literal-node : (t : List ℕ) → Sound t → (i : ℕ) → i < count t → 4 ≤ kindAt t i → kindAt t i < 6 → Literal t i
+pub literal-node : (t : List ℕ) → pslRefusal t ≡ none → (i : ℕ) → i < count t → 4 ≤ kindAt t i → kindAt t i < 6 → Literal t i
 literal-node t s i h lo hi = go (decLt (kindAt t i) 5)
   where
     go : Dec (kindAt t i < 5) → Literal t i
@@ -198,7 +199,7 @@ pub record Joined (t : List ℕ) (i : ℕ) : Type 0 where
   pub arm : (a r : ℕ) {n m p q k : ℕ} {old mid mid′ now : List ℕ} → k ≡ cond (eqb (kindAt t i) 9) 6 3 → WalksF (formulaAt t (leftAt t i)) a r n m old mid
       → WalksF (formulaAt t (rightAt t i)) a r m p mid mid′ → Node1 k (m - 1) (p - 1) p q mid′ now → WalksF (formulaAt t i) a r n q old now
 
-pub joined-node : (t : List ℕ) → Sound t → (i : ℕ) → i < count t → 6 ≤ kindAt t i → (kindAt t i ≡ 6 → ⊥) → (kindAt t i ≡ 8 → ⊥)
+pub joined-node : (t : List ℕ) → pslRefusal t ≡ none → (i : ℕ) → i < count t → 6 ≤ kindAt t i → (kindAt t i ≡ 6 → ⊥) → (kindAt t i ≡ 8 → ⊥)
     → (kindAt t i ≡ 10 → ⊥) → Joined t i
 joined-node t s i h lo n6 n8 n10 = go (decLt (kindAt t i) 8)
   where

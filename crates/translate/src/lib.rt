@@ -1,12 +1,13 @@
 // The translation from PSL tables to LTL tables.
 ghost use mathlib.Core.Path.{_≡_};
 ghost use mathlib.Core.Bool.{cond};
+ghost use mathlib.Core.Option.{none};
 ghost use Prim.Native.Nat.{_+_, _<_, _≤_};
 ghost use lib.Dec.{eqb};
 ghost use Rattle.table.specs.Node.{node, _▸_, count, kindAt};
 ghost use Rattle.psl.specs.Formula.{weighB, weigh};
 ghost use Rattle.psl.specs.Parts.{booleanAt, formulaAt};
-ghost use Rattle.psl.specs.Sound.{Sound};
+ghost use Rattle.psl.specs.Check.{pslRefusal};
 ghost use Rattle.translate.specs.Emitted.{adds, walkB, walk as walkS, gate as gateS, literal as literalS};
 ghost use Rattle.translate.specs.Stored.{Room, Walks};
 use table::NodeNo;
@@ -35,7 +36,7 @@ fn gate(out: &mut [u16], n: NodeNo, x: NodeNo, a: NodeNo, r: NodeNo) -> NodeNo
 
 // A Boolean: its operands, then one node.
 fn walk_boolean(t: &[u16], i: NodeNo, out: &mut [u16], n: NodeNo) -> NodeNo
-    requires { ⌜ Sound (now t) × (i .0 < count (now t)) × (kindAt (now t) (i .0) < 4) × Room (weighB adds (booleanAt (now t) (i .0))) (n .0) (now out) ⌝ }
+    requires { ⌜ (pslRefusal (now t) ≡ none) × (i .0 < count (now t)) × (kindAt (now t) (i .0) < 4) × Room (weighB adds (booleanAt (now t) (i .0))) (n .0) (now out) ⌝ }
     ensures { λ m. ⌜ Walks (weighB adds (booleanAt (now (t .entry)) (i .0))) (walkB (booleanAt (now (t .entry)) (i .0))) (n .0) (m .0) (now (out .entry)) (now (out .exit)) ⌝ }
 {
     let at = 3 * (i.0 as usize);
@@ -58,7 +59,7 @@ fn walk_boolean(t: &[u16], i: NodeNo, out: &mut [u16], n: NodeNo) -> NodeNo
 
 // A Boolean under its gate: weak, strong, and an abort's condition.
 fn literal(t: &[u16], i: NodeNo, a: NodeNo, r: NodeNo, out: &mut [u16], n: NodeNo) -> NodeNo
-    requires { ⌜ Sound (now t) × (i .0 < count (now t)) × (kindAt (now t) (i .0) < 4) × Room (weighB adds (booleanAt (now t) (i .0)) + 3) (n .0) (now out) ⌝ }
+    requires { ⌜ (pslRefusal (now t) ≡ none) × (i .0 < count (now t)) × (kindAt (now t) (i .0) < 4) × Room (weighB adds (booleanAt (now t) (i .0)) + 3) (n .0) (now out) ⌝ }
     ensures { λ m. ⌜ Walks (weighB adds (booleanAt (now (t .entry)) (i .0)) + 3) (literalS (booleanAt (now (t .entry)) (i .0)) (a .0) (r .0)) (n .0) (m .0) (now (out .entry)) (now (out .exit)) ⌝ }
 {
     let m = walk_boolean(t, i, out, n);
@@ -74,7 +75,7 @@ fn joining(kind: u16) -> u16
 
 // A formula, with the numbers of accept a and reject r.
 fn walk(t: &[u16], i: NodeNo, a: NodeNo, r: NodeNo, out: &mut [u16], n: NodeNo) -> NodeNo
-    requires { ⌜ Sound (now t) × (i .0 < count (now t)) × (4 ≤ kindAt (now t) (i .0)) × Room (weigh adds (formulaAt (now t) (i .0))) (n .0) (now out) ⌝ }
+    requires { ⌜ (pslRefusal (now t) ≡ none) × (i .0 < count (now t)) × (4 ≤ kindAt (now t) (i .0)) × Room (weigh adds (formulaAt (now t) (i .0))) (n .0) (now out) ⌝ }
     ensures { λ m. ⌜ Walks (weigh adds (formulaAt (now (t .entry)) (i .0))) (walkS (formulaAt (now (t .entry)) (i .0)) (a .0) (r .0)) (n .0) (m .0) (now (out .entry)) (now (out .exit)) ⌝ }
 {
     let at = 3 * (i.0 as usize);

@@ -1,16 +1,17 @@
 -- The arms of the rows of a PSL table: what each tells, by what its node stands for.
 use mathlib.Core.Path.{_≡_, refl, sym, ap, ap₂, subst, _∙_}
 use mathlib.Core.Bool.{Bool, true, false, not, _&&_}
+use mathlib.Core.Option.{none}
 use mathlib.Core.List.{List}
 use Prim.Native.Nat.{ℕ, zero, suc, _≤_, _<_}
 use native.Mathlib.Omega.{arith}
 use native.Mathlib.Decide.{decLt}
 use Rattle.table.specs.Node.{count, kindAt, leftAt}
 use Rattle.psl.specs.Formula.{BoolExpr, Formula, weak, strong, fnot, fand, next, until, abort}
+use Rattle.psl.specs.Check.{pslRefusal}
 use Rattle.psl.specs.Parts.{booleanAt, formulaAt}
-use Rattle.psl.specs.Sound.{Boolean, Sound}
 use Rattle.psl.specs.Empty.{onEmpty}
-use Rattle.psl.proofs.SoundLaw.{kind-known, is-weak, is-strong, is-next, is-until}
+use Rattle.psl.proofs.AcceptedLaw.{Boolean, kind-known, is-weak, is-strong, is-next, is-until}
 use Rattle.ltl.specs.Tree.{Ltl, lnot, land, lor}
 use Rattle.translate.specs.Translation.{treeB, translated}
 use Rattle.rows.specs.Rows.{Tells}
@@ -23,7 +24,7 @@ pub as-formula : {lead loop : List ℕ} {a r w : ℕ} {f g : Formula} → f ≡ 
 as-formula {lead} {loop} {a} {r} {w} e h = subst (λ (d : Formula). TellsFormula lead loop d a r w) (sym e) h
 
 -- A weak or a strong node, by its Boolean's row and the gate.
-pub tells-literal : (t : List ℕ) → Sound t → (i : ℕ) → i < count t → 4 ≤ kindAt t i → kindAt t i < 6
+pub tells-literal : (t : List ℕ) → pslRefusal t ≡ none → (i : ℕ) → i < count t → 4 ≤ kindAt t i → kindAt t i < 6
     → Boolean t i (leftAt t i) × ((lead loop : List ℕ) (a r w : ℕ)
     → ((x y : Ltl) → Tells lead loop a x → Tells lead loop r y → Tells lead loop w (lor x (land (treeB (booleanAt t (leftAt t i))) (lnot y))))
     → TellsFormula lead loop (formulaAt t i) a r w)
@@ -57,7 +58,7 @@ unfolding onEmpty
 empty-abort e h = empty-as e h
 
 -- A strong, a next and an until fail.
-pub empty-rest : (t : List ℕ) → Sound t → (i : ℕ) → i < count t → 4 ≤ kindAt t i → (kindAt t i ≡ 4 → ⊥) → (kindAt t i ≡ 6 → ⊥)
+pub empty-rest : (t : List ℕ) → pslRefusal t ≡ none → (i : ℕ) → i < count t → 4 ≤ kindAt t i → (kindAt t i ≡ 4 → ⊥) → (kindAt t i ≡ 6 → ⊥)
     → (kindAt t i ≡ 7 → ⊥) → (kindAt t i ≡ 10 → ⊥) → false ≡ onEmpty (formulaAt t i)
 unfolding onEmpty
 empty-rest t s i h lo n4 n6 n7 n10 = go (kindAt t i) refl

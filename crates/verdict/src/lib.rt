@@ -1,6 +1,7 @@
 // The two verdicts.
 ghost use mathlib.Core.Path.{_≡_};
 ghost use mathlib.Core.Bool.{cond};
+ghost use mathlib.Core.Option.{none};
 ghost use mathlib.Core.Logic.{_↔_};
 ghost use Prim.Native.Nat.{_-_, _<_, _≤_};
 ghost use lib.Dec.{T};
@@ -11,8 +12,8 @@ ghost use Rattle.table.specs.Node.{count, kindAt};
 ghost use Rattle.psl.specs.Meaning.{HoldsOn};
 ghost use Rattle.psl.specs.Table.{formulaOf};
 ghost use Rattle.psl.specs.Parts.{booleanAt, formulaAt};
-ghost use Rattle.psl.specs.Sound.{Sound};
-ghost use Rattle.ltl.specs.Sound.{Sound as LtlSound};
+ghost use Rattle.psl.specs.Check.{pslRefusal};
+ghost use Rattle.ltl.specs.Check.{ltlRefusal};
 ghost use Rattle.ltl.specs.Meaning.{LtlHoldsOn};
 ghost use Rattle.ltl.specs.Table.{treeOf};
 ghost use Rattle.psl.specs.Empty.{onEmpty};
@@ -30,7 +31,7 @@ use trace::Refusal;
 
 // The row of a Boolean.
 fn boolean_row(t: &[u16], i: NodeNo, lead: &[Letter], cycle: &[Letter]) -> Row
-    requires { ⌜ Sound (now t) × (i .0 < count (now t)) × (kindAt (now t) (i .0) < 4) × Few (now lead) (now cycle) ⌝ }
+    requires { ⌜ (pslRefusal (now t) ≡ none) × (i .0 < count (now t)) × (kindAt (now t) (i .0) < 4) × Few (now lead) (now cycle) ⌝ }
     ensures { λ w. ⌜ Tells (now (lead .entry)) (now (cycle .entry)) w (treeB (booleanAt (now (t .entry)) (i .0))) ⌝ }
 {
     let at = 3 * (i.0 as usize);
@@ -47,7 +48,7 @@ fn boolean_row(t: &[u16], i: NodeNo, lead: &[Letter], cycle: &[Letter]) -> Row
 
 // The row of a formula's translation, by the rows of accept and reject.
 fn formula_row(t: &[u16], i: NodeNo, a: Row, r: Row, lead: &[Letter], cycle: &[Letter]) -> Row
-    requires { ⌜ Sound (now t) × (i .0 < count (now t)) × (4 ≤ kindAt (now t) (i .0)) × Few (now lead) (now cycle) ⌝ }
+    requires { ⌜ (pslRefusal (now t) ≡ none) × (i .0 < count (now t)) × (4 ≤ kindAt (now t) (i .0)) × Few (now lead) (now cycle) ⌝ }
     ensures { λ w. ⌜ TellsFormula (now (lead .entry)) (now (cycle .entry)) (formulaAt (now (t .entry)) (i .0)) a r w ⌝ }
 {
     let at = 3 * (i.0 as usize);
@@ -80,7 +81,7 @@ fn formula_row(t: &[u16], i: NodeNo, a: Row, r: Row, lead: &[Letter], cycle: &[L
 
 // A formula on the empty trace.
 fn on_empty(t: &[u16], i: NodeNo) -> bool
-    requires { ⌜ Sound (now t) × (i .0 < count (now t)) × (4 ≤ kindAt (now t) (i .0)) ⌝ }
+    requires { ⌜ (pslRefusal (now t) ≡ none) × (i .0 < count (now t)) × (4 ≤ kindAt (now t) (i .0)) ⌝ }
     ensures { λ b. ⌜ b ≡ onEmpty (formulaAt (now (t .entry)) (i .0)) ⌝ }
 {
     let at = 3 * (i.0 as usize);
@@ -98,7 +99,7 @@ fn on_empty(t: &[u16], i: NodeNo) -> bool
 
 // The rows of all nodes of an LTL table, from node 0 up.
 fn fill_rows(t: &[u16], lead: &[Letter], cycle: &[Letter], told: &mut [Row])
-    requires { ⌜ LtlSound (now t) × (0 < count (now t)) × Few (now lead) (now cycle) × (count (now t) ≤ length (now told)) × (signals ≤ length (now told)) ⌝ }
+    requires { ⌜ (ltlRefusal (now t) ≡ none) × Few (now lead) (now cycle) × (count (now t) ≤ length (now told)) × (signals ≤ length (now told)) ⌝ }
     ensures { λ _. ⌜ Tells (now (lead .entry)) (now (cycle .entry)) (getD (now (told .exit)) (count (now (t .entry)) - 1) 0) (treeOf (now (t .entry))) ⌝ }
 {
     let n = t.len() / 3;
@@ -116,7 +117,7 @@ fn fill_rows(t: &[u16], lead: &[Letter], cycle: &[Letter], told: &mut [Row])
 
 // Whether an accepted LTL table holds on a trace. Small tables, which are the rule, clear a small array.
 pub fn ltl_holds(t: &[u16], lead: &[Letter], cycle: &[Letter]) -> bool
-    requires { ⌜ LtlSound (now t) × (0 < count (now t)) × (count (now t) ≤ 4096) × Few (now lead) (now cycle) ⌝ }
+    requires { ⌜ (ltlRefusal (now t) ≡ none) × Few (now lead) (now cycle) ⌝ }
     ensures { λ b. ⌜ LtlHoldsOn (treeOf (now (t .entry))) (now (lead .entry)) (now (cycle .entry)) ↔ T b ⌝ }
 {
     let last = t.len() / 3 - 1;
@@ -132,7 +133,7 @@ pub fn ltl_holds(t: &[u16], lead: &[Letter], cycle: &[Letter]) -> bool
 
 // Whether an accepted PSL table holds on a trace: the translation's row, with nothing accepted or rejected yet.
 pub fn psl_holds(t: &[u16], lead: &[Letter], cycle: &[Letter]) -> bool
-    requires { ⌜ Sound (now t) × (0 < count (now t)) × (count (now t) ≤ 1024) × (4 ≤ kindAt (now t) (count (now t) - 1)) × (size (now lead) (now cycle) ≤ mostLetters) ⌝ }
+    requires { ⌜ (pslRefusal (now t) ≡ none) × (size (now lead) (now cycle) ≤ mostLetters) ⌝ }
     ensures { λ b. ⌜ HoldsOn (formulaOf (now (t .entry))) (now (lead .entry)) (now (cycle .entry)) ↔ T b ⌝ }
 {
     let root = NodeNo((t.len() / 3 - 1) as u16);

@@ -5,7 +5,7 @@ use mathlib.Core.Path.{_≡_}
 use Prim.Native.Nat.{ℕ, _<_}
 use Rattle.table.specs.Node.{kindAt, leftAt, rightAt}
 use Rattle.psl.specs.Parts.{booleanAt, formulaAt}
-use Rattle.psl.proofs.SoundLaw.{is-not, is-next, is-abort}
+use Rattle.psl.proofs.AcceptedLaw.{is-not, is-next, is-abort}
 use Rattle.translate.proofs.ArmLaw.{weight-not, weight-next, weight-abort, weightB-pos, weight-pos, literal-node, joined-node, arm-not, arm-next, arm-abort}
 use borrow.Fn.Kinds.{In}
 use borrow.Fn.PlainCycle.{Measures, is, falls, and}

@@ -5,7 +5,7 @@ use mathlib.Core.Path.{_≡_}
 use Prim.Native.Nat.{ℕ, _<_}
 use Rattle.table.specs.Node.{kindAt, leftAt, rightAt}
 use Rattle.psl.specs.Parts.{booleanAt}
-use Rattle.psl.proofs.SoundLaw.{is-true, is-var, is-bnot, is-band}
+use Rattle.psl.proofs.AcceptedLaw.{is-true, is-var, is-bnot, is-band}
 use Rattle.translate.proofs.ArmLaw.{weight-true, weight-var, weight-bnot, weight-band, weightB-pos, left-boolean, arm-true, arm-var, arm-bnot, arm-band}
 use borrow.Fn.Kinds.{In}
 use borrow.Fn.PlainCycle.{Measures, is, falls, and}

@@ -4,7 +4,7 @@ use native.Mathlib.Omega.{arith}
 use mathlib.Core.Path.{_≡_}
 use Prim.Native.Nat.{ℕ, _<_}
 use Rattle.table.specs.Node.{kindAt}
-use Rattle.psl.proofs.SoundLaw.{is-true, is-var, is-bnot, is-band}
+use Rattle.psl.proofs.AcceptedLaw.{is-true, is-var, is-bnot, is-band}
 use Rattle.rows.proofs.RowLaw.{tells-true, tells-not, tells-and}
 use Rattle.verdict.proofs.ArmLaw.{as-boolean}
 use borrow.Fn.Kinds.{In}

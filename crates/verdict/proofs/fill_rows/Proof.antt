@@ -6,7 +6,7 @@ use Prim.Native.Nat.{ℕ, _-_, _≤_, _<_}
 use lib.ListN.{length, getD, length-set}
 use Rattle.table.specs.Node.{nodesOf, count, kindAt, leftAt, rightAt}
 use Rattle.table.proofs.NodeLaw.{length-nodes, node-at}
-use Rattle.ltl.proofs.SoundLaw.{is-var, both-below, below-any}
+use Rattle.ltl.proofs.AcceptedLaw.{some-node, is-var, both-below, below-any}
 use Rattle.ltl.specs.Table.{treeOf}
 use Rattle.rows.specs.Rows.{Tells}
 use Rattle.rows.proofs.TableLaw.{Told, told-none, told-more, told-root}
@@ -72,31 +72,31 @@ shared-slice-read-right c = search needs
 
 -- src/lib.rt:99:22
 cast-a : tie.Need-cast-a Inv-loop μ-loop
-cast-a c = let L = c .before .before .before .before in let st = L .before .before .before .before .before in let t = st .args .t .now in let i = L .loop .i in let I = L .loop .inv in let P = st .pre in let h : i < count t = omega (arith, I .0, I .1) in let B = below-any t (P .0) i h (length (L .loop .told)) (omega (arith, I .2, P .4)) (omega (arith, h, I .2, P .3)) in omega (arith, B .0)
+cast-a c = let L = c .before .before .before .before in let st = L .before .before .before .before .before in let t = st .args .t .now in let i = L .loop .i in let I = L .loop .inv in let P = st .pre in let h : i < count t = omega (arith, I .0, I .1) in let B = below-any t (P .0) i h (length (L .loop .told)) (omega (arith, I .2, P .3)) (omega (arith, h, I .2, P .2)) in omega (arith, B .0)
 
 -- src/lib.rt:99:17
 mul-a : tie.Need-mul-a Inv-loop μ-loop
-mul-a c = let L = c .before .before .before .before in let st = L .before .before .before .before .before in let t = st .args .t .now in let i = L .loop .i in let I = L .loop .inv in let P = st .pre in let h : i < count t = omega (arith, I .0, I .1) in let B = below-any t (P .0) i h (length (L .loop .told)) (omega (arith, I .2, P .4)) (omega (arith, h, I .2, P .3)) in omega (arith, B .0)
+mul-a c = let L = c .before .before .before .before in let st = L .before .before .before .before .before in let t = st .args .t .now in let i = L .loop .i in let I = L .loop .inv in let P = st .pre in let h : i < count t = omega (arith, I .0, I .1) in let B = below-any t (P .0) i h (length (L .loop .told)) (omega (arith, I .2, P .3)) (omega (arith, h, I .2, P .2)) in omega (arith, B .0)
 
 -- src/lib.rt:99:17
 slice-read-a : tie.Need-slice-read-a Inv-loop μ-loop
-slice-read-a c = let L = c .before .before .before .before .before in let st = L .before .before .before .before .before in let t = st .args .t .now in let i = L .loop .i in let I = L .loop .inv in let P = st .pre in let h : i < count t = omega (arith, I .0, I .1) in let B = below-any t (P .0) i h (length (L .loop .told)) (omega (arith, I .2, P .4)) (omega (arith, h, I .2, P .3)) in B .0
+slice-read-a c = let L = c .before .before .before .before .before in let st = L .before .before .before .before .before in let t = st .args .t .now in let i = L .loop .i in let I = L .loop .inv in let P = st .pre in let h : i < count t = omega (arith, I .0, I .1) in let B = below-any t (P .0) i h (length (L .loop .told)) (omega (arith, I .2, P .3)) (omega (arith, h, I .2, P .2)) in B .0
 
 -- src/lib.rt:100:22
 cast-b : tie.Need-cast-b Inv-loop μ-loop
-cast-b c = let L = c .before .before .before .before .before in let st = L .before .before .before .before .before in let t = st .args .t .now in let i = L .loop .i in let I = L .loop .inv in let P = st .pre in let h : i < count t = omega (arith, I .0, I .1) in let B = below-any t (P .0) i h (length (L .loop .told)) (omega (arith, I .2, P .4)) (omega (arith, h, I .2, P .3)) in omega (arith, B .1)
+cast-b c = let L = c .before .before .before .before .before in let st = L .before .before .before .before .before in let t = st .args .t .now in let i = L .loop .i in let I = L .loop .inv in let P = st .pre in let h : i < count t = omega (arith, I .0, I .1) in let B = below-any t (P .0) i h (length (L .loop .told)) (omega (arith, I .2, P .3)) (omega (arith, h, I .2, P .2)) in omega (arith, B .1)
 
 -- src/lib.rt:100:17
 mul-b : tie.Need-mul-b Inv-loop μ-loop
-mul-b c = let L = c .before .before .before .before .before in let st = L .before .before .before .before .before in let t = st .args .t .now in let i = L .loop .i in let I = L .loop .inv in let P = st .pre in let h : i < count t = omega (arith, I .0, I .1) in let B = below-any t (P .0) i h (length (L .loop .told)) (omega (arith, I .2, P .4)) (omega (arith, h, I .2, P .3)) in omega (arith, B .1)
+mul-b c = let L = c .before .before .before .before .before in let st = L .before .before .before .before .before in let t = st .args .t .now in let i = L .loop .i in let I = L .loop .inv in let P = st .pre in let h : i < count t = omega (arith, I .0, I .1) in let B = below-any t (P .0) i h (length (L .loop .told)) (omega (arith, I .2, P .3)) (omega (arith, h, I .2, P .2)) in omega (arith, B .1)
 
 -- src/lib.rt:100:17
 slice-read-b : tie.Need-slice-read-b Inv-loop μ-loop
-slice-read-b c = let L = c .before .before .before .before .before .before in let st = L .before .before .before .before .before in let t = st .args .t .now in let i = L .loop .i in let I = L .loop .inv in let P = st .pre in let h : i < count t = omega (arith, I .0, I .1) in let B = below-any t (P .0) i h (length (L .loop .told)) (omega (arith, I .2, P .4)) (omega (arith, h, I .2, P .3)) in B .1
+slice-read-b c = let L = c .before .before .before .before .before .before in let st = L .before .before .before .before .before in let t = st .args .t .now in let i = L .loop .i in let I = L .loop .inv in let P = st .pre in let h : i < count t = omega (arith, I .0, I .1) in let B = below-any t (P .0) i h (length (L .loop .told)) (omega (arith, I .2, P .3)) (omega (arith, h, I .2, P .2)) in B .1
 
 -- src/lib.rt:101:19
 node-row-requires : tie.Need-node-row-requires Inv-loop μ-loop
-node-row-requires c κs = let L = c .before .before .before .before .before .before in let st = L .before .before .before .before .before in let t = st .args .t .now in let i = L .loop .i in let I = L .loop .inv in let P = st .pre in let h : i < count t = omega (arith, I .0, I .1) in let B = below-any t (P .0) i h (length (L .loop .told)) (omega (arith, I .2, P .4)) (omega (arith, h, I .2, P .3)) in (P .2, is-var t (P .0) i h)
+node-row-requires c κs = let L = c .before .before .before .before .before .before in let st = L .before .before .before .before .before in let t = st .args .t .now in let i = L .loop .i in let I = L .loop .inv in let P = st .pre in let h : i < count t = omega (arith, I .0, I .1) in let B = below-any t (P .0) i h (length (L .loop .told)) (omega (arith, I .2, P .3)) (omega (arith, h, I .2, P .2)) in (P .1, is-var t (P .0) i h)
 
 -- src/lib.rt:101:9
 mul-told : tie.Need-mul-told Inv-loop μ-loop
@@ -116,7 +116,7 @@ loop-less c = search needs
 
 -- src/lib.rt:95:5
 loop-again : tie.Need-loop-again Inv-loop μ-loop
-loop-again c = let L = c .before .before .before .before .before .before .before in let st = L .before .before .before .before .before in let t = st .args .t .now in let i = L .loop .i in let I = L .loop .inv in let P = st .pre in let h : i < count t = omega (arith, I .0, I .1) in let B = below-any t (P .0) i h (length (L .loop .told)) (omega (arith, I .2, P .4)) (omega (arith, h, I .2, P .3)) in (I .0, search needs, simp length-set (I .2), told-more i (kindAt t i) (leftAt t i) (rightAt t i) _ (omega (arith, length-nodes t, h)) (omega (arith, h, I .2, P .3)) (node-at t i (omega arith)) (both-below t (P .0) i h) (c .node-row .ensures) (I .3))
+loop-again c = let L = c .before .before .before .before .before .before .before in let st = L .before .before .before .before .before in let t = st .args .t .now in let i = L .loop .i in let I = L .loop .inv in let P = st .pre in let h : i < count t = omega (arith, I .0, I .1) in let B = below-any t (P .0) i h (length (L .loop .told)) (omega (arith, I .2, P .3)) (omega (arith, h, I .2, P .2)) in (I .0, search needs, simp length-set (I .2), told-more i (kindAt t i) (leftAt t i) (rightAt t i) _ (omega (arith, length-nodes t, h)) (omega (arith, h, I .2, P .2)) (node-at t i (omega arith)) (both-below t (P .0) i h) (c .node-row .ensures) (I .3))
 
 -- src/lib.rt:89:1
 same-length : tie.Need-same-length Inv-loop μ-loop
@@ -124,7 +124,7 @@ same-length c = search needs
 
 -- src/lib.rt:89:1
 returns : tie.Need-returns Inv-loop μ-loop
-returns c = let L = c .before in let st = L .before .before .before .before .before in let t = st .args .t .now in let i = L .loop .i in let I = L .loop .inv in let P = st .pre in let W = L .loop .told in let n = length-nodes t in let e : i ≡ length (nodesOf t) = omega (arith, n, I .0, I .1) in let R = told-root t W (omega (arith, n, P .1)) (subst (λ (m : ℕ). Told (st .args .lead .now) (st .args .cycle .now) (nodesOf t) m W) e (I .3)) in subst (λ (m : ℕ). Tells (st .args .lead .now) (st .args .cycle .now) (getD W (m - 1) 0) (treeOf t)) n R
+returns c = let L = c .before in let st = L .before .before .before .before .before in let t = st .args .t .now in let i = L .loop .i in let I = L .loop .inv in let P = st .pre in let W = L .loop .told in let n = length-nodes t in let e : i ≡ length (nodesOf t) = omega (arith, n, I .0, I .1) in let R = told-root t W (omega (arith, n, some-node t (P .0))) (subst (λ (m : ℕ). Told (st .args .lead .now) (st .args .cycle .now) (nodesOf t) m W) e (I .3)) in subst (λ (m : ℕ). Tells (st .args .lead .now) (st .args .cycle .now) (getD W (m - 1) 0) (treeOf t)) n R
 
 pub fill-rows-spec : {M : Type 1} → statement M
 fill-rows-spec =

@@ -1,6 +1,8 @@
 -- `verdict::ltl_holds` meets its contract: the root's row, at moment 0.
 use borrow.Author.Needs.{needs}
+use native.Mathlib.Omega.{arith}
 use Rattle.ltl.specs.Table.{treeOf}
+use Rattle.ltl.proofs.AcceptedLaw.{some-node, most-nodes}
 use Rattle.verdict.proofs.ltl_holds.Statement.{statement}
 use Rattle.verdict.proofs.ltl_holds.Tie as tie
 use Rattle.verdict.proofs.ltl_holds.Reads as reads
@@ -10,7 +12,7 @@ use Rattle.verdict.proofs.fill_rows.Reads as fill-rows-reads
 
 -- src/lib.rt:117:16
 sub-last : tie.Need-sub-last
-sub-last c = search needs
+sub-last c = let st = c .before .before .before in omega (arith, some-node (st .args .t .now) (st .pre .0))
 
 -- src/lib.rt:120:35
 slice-aggregate-fill-rows : tie.Need-slice-aggregate-fill-rows
@@ -34,7 +36,7 @@ at-first-requires c κs = search needs
 
 -- src/lib.rt:121:9
 returns : tie.Need-returns
-returns c = let F = c .before .before in let st = F .before .before .before .before .before .before in c .at-first .ensures (st .args .lead .now) (st .args .cycle .now) (treeOf (st .args .t .now)) (st .pre .3) (F .fill-rows .ensures)
+returns c = let F = c .before .before in let st = F .before .before .before .before .before .before in c .at-first .ensures (st .args .lead .now) (st .args .cycle .now) (treeOf (st .args .t .now)) (st .pre .1) (F .fill-rows .ensures)
 
 -- src/lib.rt:124:31
 slice-aggregate-fill-rows-2 : tie.Need-slice-aggregate-fill-rows-2
@@ -42,7 +44,7 @@ slice-aggregate-fill-rows-2 c = search needs
 
 -- src/lib.rt:124:5
 fill-rows-requires-2 : tie.Need-fill-rows-requires-2
-fill-rows-requires-2 c κs = search needs
+fill-rows-requires-2 c κs = let st = c .before .before .before .before .before in (st .pre .0, st .pre .1, omega (arith, most-nodes (st .args .t .now) (st .pre .0)), search needs)
 
 -- src/lib.rt:125:20
 mul-at-first-2 : tie.Need-mul-at-first-2
@@ -50,7 +52,7 @@ mul-at-first-2 c = search needs
 
 -- src/lib.rt:125:20
 array-read-at-first-2 : tie.Need-array-read-at-first-2
-array-read-at-first-2 c = search needs
+array-read-at-first-2 c = let st = c .before .before .before .before .before .before .before in omega (arith, some-node (st .args .t .now) (st .pre .0), most-nodes (st .args .t .now) (st .pre .0))
 
 -- src/lib.rt:125:5
 at-first-requires-2 : tie.Need-at-first-requires-2
@@ -58,7 +60,7 @@ at-first-requires-2 c κs = search needs
 
 -- src/lib.rt:113:1
 returns-2 : tie.Need-returns-2
-returns-2 c = let F = c .before .before in let st = F .before .before .before .before .before .before in c .at-first2 .ensures (st .args .lead .now) (st .args .cycle .now) (treeOf (st .args .t .now)) (st .pre .3) (F .fill-rows2 .ensures)
+returns-2 c = let F = c .before .before in let st = F .before .before .before .before .before .before in c .at-first2 .ensures (st .args .lead .now) (st .args .cycle .now) (treeOf (st .args .t .now)) (st .pre .1) (F .fill-rows2 .ensures)
 
 pub ltl-holds-spec : {M : Type 1} → statement M
 ltl-holds-spec =

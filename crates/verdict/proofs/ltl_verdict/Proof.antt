@@ -3,7 +3,6 @@ use borrow.Author.Needs.{needs}
 use native.Mathlib.Omega.{arith}
 use Rattle.table.proofs.CheckLaw.{accepted as accepted-none, was-refused}
 use Rattle.ltl.specs.Check.{ltlRefusal}
-use Rattle.ltl.proofs.AcceptedLaw.{accepted}
 use Rattle.verdict.proofs.JudgesLaw.{ltl-check, ltl-long, ltl-empty, ltl-fine, judged}
 use Rattle.verdict.proofs.ltl_verdict.Statement.{statement}
 use Rattle.verdict.proofs.ltl_verdict.Tie as tie
@@ -39,7 +38,7 @@ returns-2 c = let el = c .before in let E = el .before in let C = E .before .bef
 
 -- src/lib.rt:187:21
 ltl-holds-requires : tie.Need-ltl-holds-requires
-ltl-holds-requires c κs = let el = c .before in let E = el .before in let C = E .before .before in let st = C .before .before .before .before in let t = st .args .t .now in let l = st .args .lead .now in let m = st .args .cycle .now in let e = accepted-none (ltlRefusal t) (C .check-ltl .result) (C .check-ltl .ensures) (E .enum-told .given .1) in let A = accepted t e in (A .nodes, A .some, A .most, record { some = omega (arith, c .if2 .left); most = el .if1 .left })
+ltl-holds-requires c κs = let el = c .before in let E = el .before in let C = E .before .before in let st = C .before .before .before .before in let t = st .args .t .now in let l = st .args .lead .now in let m = st .args .cycle .now in let e = accepted-none (ltlRefusal t) (C .check-ltl .result) (C .check-ltl .ensures) (E .enum-told .given .1) in (e, record { some = omega (arith, c .if2 .left); most = el .if1 .left })
 
 -- src/lib.rt:187:13
 decided-requires : tie.Need-decided-requires

@@ -3,7 +3,6 @@ use borrow.Author.Needs.{needs}
 use native.Mathlib.Omega.{arith}
 use Rattle.table.proofs.CheckLaw.{accepted as accepted-none, was-refused}
 use Rattle.psl.specs.Check.{pslRefusal}
-use Rattle.psl.proofs.AcceptedLaw.{accepted}
 use Rattle.verdict.proofs.JudgesLaw.{psl-check, psl-long, psl-fine, judged}
 use Rattle.verdict.proofs.psl_verdict.Statement.{statement}
 use Rattle.verdict.proofs.psl_verdict.Tie as tie
@@ -35,7 +34,7 @@ returns c = let E = c .before in let C = E .before .before in let st = C .before
 
 -- src/lib.rt:168:21
 psl-holds-requires : tie.Need-psl-holds-requires
-psl-holds-requires c κs = let E = c .before in let C = E .before .before in let st = C .before .before .before .before in let t = st .args .t .now in let l = st .args .lead .now in let m = st .args .cycle .now in let e = accepted-none (pslRefusal t) (C .check-psl .result) (C .check-psl .ensures) (E .enum-told .given .1) in let A = accepted t e in (A .nodes, A .some, A .most, A .root, c .if1 .left)
+psl-holds-requires c κs = let E = c .before in let C = E .before .before in let st = C .before .before .before .before in let t = st .args .t .now in let l = st .args .lead .now in let m = st .args .cycle .now in let e = accepted-none (pslRefusal t) (C .check-psl .result) (C .check-psl .ensures) (E .enum-told .given .1) in (e, c .if1 .left)
 
 -- src/lib.rt:168:13
 decided-requires : tie.Need-decided-requires
