@@ -5,3 +5,4 @@ pub mod StoredLaw
 pub mod ArmLaw
 pub mod TranslatesLaw
 pub mod WorkedLaw
+pub mod DeliversLaw

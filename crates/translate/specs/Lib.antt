@@ -3,3 +3,4 @@ pub mod Emitted
 pub mod Claim
 pub mod Stored
 pub mod Worked
+pub mod Answer

@@ -2,15 +2,21 @@
 ghost use mathlib.Core.Path.{_≡_};
 ghost use mathlib.Core.Bool.{cond};
 ghost use mathlib.Core.Option.{none};
-ghost use Prim.Native.Nat.{_+_, _<_, _≤_};
+ghost use mathlib.Core.List.{_++_};
+ghost use Prim.Native.Nat.{_+_, _*_, _<_, _≤_};
+ghost use lib.ListN.{length, drop};
 ghost use lib.Dec.{eqb};
 ghost use Rattle.table.specs.Node.{node, _▸_, count, kindAt};
 ghost use Rattle.psl.specs.Formula.{weighB, weigh};
+ghost use Rattle.psl.specs.Table.{formulaOf};
 ghost use Rattle.psl.specs.Parts.{booleanAt, formulaAt};
 ghost use Rattle.psl.specs.Check.{pslRefusal};
-ghost use Rattle.translate.specs.Emitted.{adds, walkB, walk as walkS, gate as gateS, literal as literalS};
+ghost use Rattle.translate.specs.Emitted.{adds as addsS, emitted, emittedSize, walkB, walk as walkS, gate as gateS, literal as literalS};
 ghost use Rattle.translate.specs.Stored.{Room, Walks};
+ghost use Rattle.translate.specs.Answer.{Delivers};
+use table::Checked;
 use table::NodeNo;
+use trace::Refusal;
 
 // A node behind those that are there; the number of the next one comes back.
 fn append(out: &mut [u16], n: NodeNo, kind: u16, left: u16, right: u16) -> NodeNo
@@ -36,8 +42,8 @@ fn gate(out: &mut [u16], n: NodeNo, x: NodeNo, a: NodeNo, r: NodeNo) -> NodeNo
 
 // A Boolean: its operands, then one node.
 fn walk_boolean(t: &[u16], i: NodeNo, out: &mut [u16], n: NodeNo) -> NodeNo
-    requires { ⌜ (pslRefusal (now t) ≡ none) × (i .0 < count (now t)) × (kindAt (now t) (i .0) < 4) × Room (weighB adds (booleanAt (now t) (i .0))) (n .0) (now out) ⌝ }
-    ensures { λ m. ⌜ Walks (weighB adds (booleanAt (now (t .entry)) (i .0))) (walkB (booleanAt (now (t .entry)) (i .0))) (n .0) (m .0) (now (out .entry)) (now (out .exit)) ⌝ }
+    requires { ⌜ (pslRefusal (now t) ≡ none) × (i .0 < count (now t)) × (kindAt (now t) (i .0) < 4) × Room (weighB addsS (booleanAt (now t) (i .0))) (n .0) (now out) ⌝ }
+    ensures { λ m. ⌜ Walks (weighB addsS (booleanAt (now (t .entry)) (i .0))) (walkB (booleanAt (now (t .entry)) (i .0))) (n .0) (m .0) (now (out .entry)) (now (out .exit)) ⌝ }
 {
     let at = 3 * (i.0 as usize);
     let kind = t[at];
@@ -59,8 +65,8 @@ fn walk_boolean(t: &[u16], i: NodeNo, out: &mut [u16], n: NodeNo) -> NodeNo
 
 // A Boolean under its gate: weak, strong, and an abort's condition.
 fn literal(t: &[u16], i: NodeNo, a: NodeNo, r: NodeNo, out: &mut [u16], n: NodeNo) -> NodeNo
-    requires { ⌜ (pslRefusal (now t) ≡ none) × (i .0 < count (now t)) × (kindAt (now t) (i .0) < 4) × Room (weighB adds (booleanAt (now t) (i .0)) + 3) (n .0) (now out) ⌝ }
-    ensures { λ m. ⌜ Walks (weighB adds (booleanAt (now (t .entry)) (i .0)) + 3) (literalS (booleanAt (now (t .entry)) (i .0)) (a .0) (r .0)) (n .0) (m .0) (now (out .entry)) (now (out .exit)) ⌝ }
+    requires { ⌜ (pslRefusal (now t) ≡ none) × (i .0 < count (now t)) × (kindAt (now t) (i .0) < 4) × Room (weighB addsS (booleanAt (now t) (i .0)) + 3) (n .0) (now out) ⌝ }
+    ensures { λ m. ⌜ Walks (weighB addsS (booleanAt (now (t .entry)) (i .0)) + 3) (literalS (booleanAt (now (t .entry)) (i .0)) (a .0) (r .0)) (n .0) (m .0) (now (out .entry)) (now (out .exit)) ⌝ }
 {
     let m = walk_boolean(t, i, out, n);
     gate(out, m, NodeNo(m.0 - 1), a, r)
@@ -75,8 +81,8 @@ fn joining(kind: u16) -> u16
 
 // A formula, with the numbers of accept a and reject r.
 fn walk(t: &[u16], i: NodeNo, a: NodeNo, r: NodeNo, out: &mut [u16], n: NodeNo) -> NodeNo
-    requires { ⌜ (pslRefusal (now t) ≡ none) × (i .0 < count (now t)) × (4 ≤ kindAt (now t) (i .0)) × Room (weigh adds (formulaAt (now t) (i .0))) (n .0) (now out) ⌝ }
-    ensures { λ m. ⌜ Walks (weigh adds (formulaAt (now (t .entry)) (i .0))) (walkS (formulaAt (now (t .entry)) (i .0)) (a .0) (r .0)) (n .0) (m .0) (now (out .entry)) (now (out .exit)) ⌝ }
+    requires { ⌜ (pslRefusal (now t) ≡ none) × (i .0 < count (now t)) × (4 ≤ kindAt (now t) (i .0)) × Room (weigh addsS (formulaAt (now t) (i .0))) (n .0) (now out) ⌝ }
+    ensures { λ m. ⌜ Walks (weigh addsS (formulaAt (now (t .entry)) (i .0))) (walkS (formulaAt (now (t .entry)) (i .0)) (a .0) (r .0)) (n .0) (m .0) (now (out .entry)) (now (out .exit)) ⌝ }
 {
     let at = 3 * (i.0 as usize);
     let kind = t[at];
@@ -103,6 +109,67 @@ fn walk(t: &[u16], i: NodeNo, a: NodeNo, r: NodeNo, out: &mut [u16], n: NodeNo) 
             let m = walk(t, left, a, r, out, n);
             let p = walk(t, right, a, r, out, m);
             append(out, p, joining(kind), m.0 - 1, p.0 - 1)
+        }
+    }
+}
+
+// How many nodes a PSL node of a kind adds to the emitted table.
+fn adds(kind: u16) -> usize
+    ensures { λ n. ⌜ (n ≡ addsS kind) × (n ≤ 4) ⌝ }
+{
+    match kind {
+        4 => 3,
+        5 => 3,
+        8 => 4,
+        10 => 3,
+        _ => 1,
+    }
+}
+
+// The size S, summed over the table's nodes.
+fn emitted_size(t: &[u16]) -> usize
+    requires { ⌜ pslRefusal (now t) ≡ none ⌝ }
+    ensures { λ s. ⌜ s ≡ emittedSize (formulaOf (now (t .entry))) ⌝ }
+{
+    let n = t.len() / 3;
+    let mut s: usize = 2;
+    let mut i: usize = 0;
+    while i < n {
+        s += adds(t[3 * i]);
+        i += 1;
+    }
+    s
+}
+
+// The emitted table of an accepted PSL table, into a list with room for it.
+fn emit(t: &[u16], out: &mut [u16])
+    requires { ⌜ (pslRefusal (now t) ≡ none) × (3 * emittedSize (formulaOf (now t)) ≤ length (now out)) ⌝ }
+    ensures { λ _. ⌜ now (out .exit) ≡ emitted (formulaOf (now (t .entry))) ++ drop (length (emitted (formulaOf (now (t .entry))))) (now (out .entry)) ⌝ }
+{
+    let root = NodeNo((t.len() / 3 - 1) as u16);
+    let one = append(out, NodeNo(0), 0, 0, 0);
+    let two = append(out, one, 2, 0, 0);
+    walk(t, root, one, one, out, two);
+}
+
+pub enum Translation {
+    Nodes(usize),
+    Refused(Refusal),
+}
+
+// The LTL table of a PSL table. Refusals 1 to 8, then 10.
+pub fn translate(t: &[u16], out: &mut [u16]) -> Translation
+    ensures { λ r. ⌜ Delivers (now (t .entry)) (now (out .entry)) r (now (out .exit)) ⌝ }
+{
+    match psl::check_psl(t) {
+        Checked::Refused(x) => Translation::Refused(x),
+        Checked::Accepted => {
+            let s = emitted_size(t);
+            if out.len() < 3 * s {
+                return Translation::Refused(Refusal(10));
+            }
+            emit(t, out);
+            Translation::Nodes(s)
         }
     }
 }

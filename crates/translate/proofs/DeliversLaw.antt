@@ -1,0 +1,120 @@
+-- From the walk over the table to the translator's answer.
+use mathlib.Core.Path.{_≡_, refl, sym, ap, subst, _∙_}
+use mathlib.Core.Option.{Option, none, some}
+use mathlib.Core.List.{List, [], _∷_, _++_}
+use Prim.Native.Nat.{ℕ, zero, suc, _+_, _*_, _-_, _≤_, _<_}
+use native.Mathlib.Omega.{arith}
+use lib.Dec.{leb}
+use lib.ListN.{length, take, drop}
+use lib.Seq.{sets, sets-eq, take-at}
+use borrow.Author.Tests.{le-leb, lt-leb}
+use Rattle.trace.specs.declared.Refusal.{Refusal}
+use Rattle.table.specs.Answer.{refused}
+use Rattle.table.specs.Node.{Node, node, _▸_, count, kindAt}
+use Rattle.table.specs.Check.{total}
+use Rattle.psl.specs.Formula.{Formula, weigh}
+use Rattle.psl.specs.Table.{formulaOf}
+use Rattle.psl.specs.Check.{pslRefusal}
+use Rattle.psl.specs.Parts.{formulaAt}
+use Rattle.psl.proofs.PartLaw.{part-root}
+use Rattle.psl.proofs.TreeLaw.{tree-weight, tree-nodes}
+use Rattle.psl.proofs.AcceptedLaw.{most-nodes}
+use Rattle.translate.specs.Emitted.{adds, walk, emitted, emittedSize}
+use Rattle.translate.specs.Claim.{Translates}
+use Rattle.translate.specs.Stored.{Stored, Walks}
+use Rattle.translate.specs.Answer.{translateRefusal, answer, left, Delivers}
+use Rattle.translate.specs.declared.Translation.{Translation}
+use Rattle.translate.specs.declared.Translation.the-variants.{Nodes, Refused}
+use Rattle.translate.proofs.WalkLaw.{length-emitted, size-bound}
+use Rattle.translate.proofs.TranslatesLaw.{translates}
+
+-- ── The size, by the table's kinds ──
+
+pub adds-rest : (k : ℕ) → (k ≡ 4 → ⊥) → (k ≡ 5 → ⊥) → (k ≡ 8 → ⊥) → (k ≡ 10 → ⊥) → 1 ≡ adds k
+unfolding adds
+adds-rest zero a b c d = refl
+adds-rest (suc zero) a b c d = refl
+adds-rest (suc (suc zero)) a b c d = refl
+adds-rest (suc (suc (suc zero))) a b c d = refl
+adds-rest (suc (suc (suc (suc zero)))) a b c d = absurd (a refl)
+adds-rest (suc (suc (suc (suc (suc zero))))) a b c d = absurd (b refl)
+adds-rest (suc (suc (suc (suc (suc (suc zero)))))) a b c d = refl
+adds-rest (suc (suc (suc (suc (suc (suc (suc zero))))))) a b c d = refl
+adds-rest (suc (suc (suc (suc (suc (suc (suc (suc zero)))))))) a b c d = absurd (c refl)
+adds-rest (suc (suc (suc (suc (suc (suc (suc (suc (suc zero))))))))) a b c d = refl
+adds-rest (suc (suc (suc (suc (suc (suc (suc (suc (suc (suc zero)))))))))) a b c d = absurd (d refl)
+adds-rest (suc (suc (suc (suc (suc (suc (suc (suc (suc (suc (suc k))))))))))) a b c d = refl
+
+-- S so far, over the first i nodes of a table of n.
+pub record SizeSoFar (t : List ℕ) (n s i : ℕ) : Type 0 where
+  pub nodes : n ≡ count t
+  pub within : i ≤ n
+  pub sum : s ≡ 2 + total (λ j. adds (kindAt t j)) i
+  pub low : s ≤ 2 + 4 * i
+
+pub size-next : {t : List ℕ} {n s i : ℕ} (a : ℕ) → i < n → a ≡ adds (kindAt t i) → a ≤ 4 → SizeSoFar t n s i → SizeSoFar t n (s + a) (i + 1)
+unfolding total
+size-next {t} {n} {s} {i} a h e u S =
+    let k : i + 1 ≡ suc i = omega arith in
+    record {
+      nodes = S .nodes;
+      within = omega arith;
+      sum = omega (arith, S .sum, e, ap (total (λ j. adds (kindAt t j))) k);
+      low = omega (arith, S .low);
+    }
+
+pub size-last : {t : List ℕ} {n s i : ℕ} → pslRefusal t ≡ none → n ≤ i → SizeSoFar t n s i → s ≡ emittedSize (formulaOf t)
+size-last {t} {n} {s} {i} e h S =
+    let z : i ≡ count t = omega (arith, S .nodes, S .within) in
+    omega (arith, S .sum, ap (total (λ j. adds (kindAt t j))) z, tree-weight t e adds)
+
+-- S by the root's formula, and its bound.
+pub size-of : (t : List ℕ) → emittedSize (formulaOf t) ≡ 2 + weigh adds (formulaAt t (count t - 1))
+size-of t = ap emittedSize (part-root t)
+
+pub size-most : (t : List ℕ) → pslRefusal t ≡ none → emittedSize (formulaOf t) ≤ 4094
+size-most t e = size-bound (formulaOf t) (omega (arith, tree-nodes t e, most-nodes t e))
+
+-- ── What the walk leaves ──
+
+pub emits : (t : List ℕ) {l o₁ o₂ o₃ : List ℕ} {p q r : ℕ} → let f = formulaAt t (count t - 1) in
+    3 * emittedSize (formulaOf t) ≤ length l → Walks 1 (λ ns. ns ▸ node 0 0 0) 0 p l o₁ → Walks 1 (λ ns. ns ▸ node 2 0 0) p q o₁ o₂
+    → Walks (weigh adds f) (walk f p p) q r o₂ o₃ → o₃ ≡ emitted (formulaOf t) ++ drop (length (emitted (formulaOf t))) l
+unfolding emitted
+emits t {l} {o₁} {o₂} {o₃} {p} {q} {r} room a b c =
+    let f = formulaOf t in
+    let one : p ≡ 1 = omega (arith, a .next) in
+    let v = subst (λ (g : Formula). Walks (weigh adds g) (walk g p p) q r o₂ o₃) (sym (part-root t)) c in
+    let w = subst (λ (k : ℕ). Walks (weigh adds f) (walk f k k) q r o₂ o₃) one v in
+    let s = w .stores l _ (b .stores l _ (a .stores l [] (record { count = refl; is = refl }))) in
+    let z : 0 + length (emitted f) ≡ length (emitted f) = omega arith in
+    s .is ∙ sets-eq (emitted f) l 0 (omega (arith, length-emitted f)) ∙ ap (λ (k : ℕ). emitted f ++ drop k l) z
+
+-- ── The answer ──
+
+module _ (t l : List ℕ) where
+  refuses : {x : Refusal} → translateRefusal t (length l) ≡ some x → Delivers t l (Refused x) l
+  refuses e = record { answers = rw e; leaves = rw e; keeps = λ s z. absurd (let y : _≡_ {A = ℕ} 0 1 = cc in omega arith) }
+
+  pub refused-check : {x : Refusal} → pslRefusal t ≡ some x → Delivers t l (Refused x) l
+  unfolding translateRefusal
+  refused-check e = refuses (rw e)
+
+  pub refused-room : pslRefusal t ≡ none → length l < 3 * emittedSize (formulaOf t) → Delivers t l (Refused (refused 10)) l
+  unfolding translateRefusal
+  refused-room e h = refuses (rw (e, lt-leb (3 * emittedSize (formulaOf t)) (length l) h))
+
+  pub delivered : {s : ℕ} {m : List ℕ} → pslRefusal t ≡ none → s ≡ emittedSize (formulaOf t) → 3 * s ≤ length l
+      → m ≡ emitted (formulaOf t) ++ drop (length (emitted (formulaOf t))) l → Delivers t l (Nodes s) m
+  unfolding translateRefusal
+  delivered {s} {m} e z h c =
+      let f = formulaOf t in
+      let n : translateRefusal t (length l) ≡ none = rw (e, le-leb (3 * emittedSize f) (length l) (omega arith)) in
+      record {
+        answers = rw n (ap Nodes z);
+        leaves = rw n c;
+        keeps = λ k d.
+            let i : k ≡ s = cc in
+            let y : take (3 * k) m ≡ emitted f = ap (take (3 * k)) c ∙ take-at (emitted f) (drop (length (emitted f)) l) (3 * k) (omega (arith, length-emitted f)) in
+            subst (Translates f) (sym y) (translates f);
+      }
