@@ -2,3 +2,4 @@ pub mod Tree
 pub mod Meaning
 pub mod Table
 pub mod Check
+pub mod Trees

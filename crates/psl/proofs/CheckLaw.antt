@@ -19,7 +19,8 @@ use Rattle.table.specs.Answer.{refused, checked}
 use Rattle.table.specs.Check.{count, kindAt, leftAt, rightAt, shapeOf, isBoolean, unless, orElse, lowest, tableRefusal, total}
 use Rattle.table.proofs.CheckLaw.{both-true, unless-none, or-none, Fits, Sound, Sized, known-kind, table-sized, table-sound, lowest-some, none-below}
 use Rattle.table.proofs.KindLaw.{every}
-use Rattle.psl.specs.Check.{pslRules, one, names, namesAt, uses, useRefusal, rootRefusal, treeRefusal, pslRefusal, Tallied}
+use Rattle.psl.specs.Check.{pslRules, one, names, namesAt, uses, useRefusal, rootRefusal, treeRefusal, pslRefusal}
+use Rattle.psl.specs.Counts.{Tallied}
 
 -- ── Counts ──
 
@@ -77,8 +78,8 @@ unfolding total
 untallied t n e h l =
     record {
       table = e;
-      nodes = simp length-replicate h;
-      signs = simp length-replicate l;
+      for-nodes = simp length-replicate h;
+      for-signals = simp length-replicate l;
       counts = λ j g. getD-replicate n j 0 0 (simp length-replicate at g);
     }
 
@@ -93,12 +94,12 @@ module _ {t : List ℕ} {i : ℕ} {c : List ℕ} (T : Tallied t i c) (h : i < co
   pub left-low : leftAt t i < length c
   left-low =
       let p = shapeOf pslRules (kindAt t i) .0 in
-      place-low (p .operand) (p .limit) (leftAt t i) i (length c) (sound .left .low) (omega (arith, T .nodes)) (omega (arith, T .signs, limits (kindAt t i) kind-low .0))
+      place-low (p .operand) (p .limit) (leftAt t i) i (length c) (sound .left .low) (omega (arith, T .for-nodes)) (omega (arith, T .for-signals, limits (kindAt t i) kind-low .0))
 
   pub right-low : rightAt t i < length c
   right-low =
       let q = shapeOf pslRules (kindAt t i) .1 in
-      place-low (q .operand) (q .limit) (rightAt t i) i (length c) (sound .right .low) (omega (arith, T .nodes)) (omega (arith, T .signs, limits (kindAt t i) kind-low .1))
+      place-low (q .operand) (q .limit) (rightAt t i) i (length c) (sound .right .low) (omega (arith, T .for-nodes)) (omega (arith, T .for-signals, limits (kindAt t i) kind-low .1))
 
   few : i < 1024
   few = omega (arith, table-sized pslRules t (T .table) .low)
@@ -128,8 +129,8 @@ module _ {t : List ℕ} {i : ℕ} {c : List ℕ} (T : Tallied t i c) (h : i < co
         let z : length (set d (rightAt t i) (getD d (rightAt t i) 0 + b)) ≡ length c = simp length-set in
         record {
           table = T .table;
-          nodes = omega (arith, z, T .nodes);
-          signs = omega (arith, z, T .signs);
+          for-nodes = omega (arith, z, T .for-nodes);
+          for-signals = omega (arith, z, T .for-signals);
           counts = λ j l.
               rw (add-one i)
               (add-use q (rightAt t i) b _ d right-in eb (λ j l. half j (simp length-set at l)) j (simp length-set (omega arith)) ∙ omega arith);
@@ -140,7 +141,7 @@ module _ {t : List ℕ} {i : ℕ} {c : List ℕ} (T : Tallied t i c) (h : i < co
 -- Node j by its count.
 module _ {t c : List ℕ} (T : Tallied t (count t) c) (j : ℕ) (h : j < count t) where
   pub in-counts : j < length c
-  in-counts = omega (arith, T .nodes)
+  in-counts = omega (arith, T .for-nodes)
 
   pub used-once : getD c j 0 ≡ 1 → useRefusal t j ≡ none
   unfolding useRefusal

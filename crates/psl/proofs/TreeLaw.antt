@@ -95,7 +95,7 @@ module _ (t : List ℕ) (e : tableRefusal pslRules t ≡ none) where
       omega (
         arith,
         total-same (λ j. (u j + (a j + b j)) * f j) (λ j. u j * f j + (a j * f j + b j * f j)) n
-        (λ j l. add-mul (u j) (a j + b j) (f j) ∙ ap (λ (m : ℕ). u j * f j + m) (add-mul (a j) (b j) (f j))),
+            (λ j l. add-mul (u j) (a j + b j) (f j) ∙ ap (λ (m : ℕ). u j * f j + m) (add-mul (a j) (b j) (f j))),
         total-add (λ j. u j * f j) (λ j. a j * f j + b j * f j) n,
         total-add (λ j. a j * f j) (λ j. b j * f j) n,
         uses-sum f i (omega arith),
