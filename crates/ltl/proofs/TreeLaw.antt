@@ -7,7 +7,7 @@ use Rattle.table.specs.Node.{node}
 use Rattle.table.specs.Check.{count, kindAt, leftAt, rightAt, nodeAt, shapeOf}
 use Rattle.table.proofs.KindLaw.{_⨾_, each}
 use Rattle.table.proofs.ValueLaw.{Same, Local, root-value, value-of}
-use Rattle.ltl.specs.Tree.{Ltl, ltrue, lvar, lnot, land, lor, lnext, luntil}
+use Rattle.ltl.specs.Tree.{ltrue, lvar, lnot, land, lor, lnext, luntil}
 use Rattle.ltl.specs.Table.{treeOfNode, treeOf}
 use Rattle.ltl.specs.Check.{ltlRules, ltlRefusal}
 use Rattle.ltl.specs.Trees.{treeAt}

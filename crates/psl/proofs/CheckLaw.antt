@@ -1,23 +1,22 @@
 -- Laws of the PSL check: the counts of uses, which refusal decides, and what an accepted table is like.
 use mathlib.Core.Path.{_≡_, refl, sym, ap, _∙_, subst}
 use mathlib.Core.Bool.{Bool, true, false, not, cond, _&&_}
-use mathlib.Core.Option.{Option, none, some}
+use mathlib.Core.Option.{none, some}
 use mathlib.Core.List.{List}
-use Prim.Native.Nat.{ℕ, zero, suc, _+_, _*_, _-_, _/_, _≤_, _<_}
+use Prim.Native.Nat.{ℕ, zero, suc, _+_, _*_, _-_, _≤_, _<_}
 use native.Mathlib.Omega.{arith}
 use native.Mathlib.Numerals.{add-one}
 use native.Mathlib.Decide.{ℕ-discrete}
 use lib.Dec.{eqb, leb}
 use lib.ListN.{length, getD, set, length-set, replicate, length-replicate, getD-replicate}
 use lib.Seq.{getD-set-same, getD-set-other}
-use borrow.Author.Tests.{eq-eqb, ne-eqb, eqb-true, leb-true, not-true, not-false}
+use borrow.Author.Tests.{eq-eqb, ne-eqb, eqb-true, leb-true, not-true}
 use Rattle.trace.specs.Letter.{signals}
 use Rattle.trace.specs.declared.Refusal.{Refusal}
 use Rattle.table.specs.declared.Place.{Place}
-use Rattle.table.specs.declared.Checked.{Checked}
-use Rattle.table.specs.Answer.{refused, checked}
-use Rattle.table.specs.Check.{count, kindAt, leftAt, rightAt, shapeOf, isBoolean, unless, orElse, lowest, tableRefusal, total}
-use Rattle.table.proofs.CheckLaw.{both-true, unless-none, or-none, Fits, Sound, Sized, known-kind, table-sized, table-sound, lowest-some, none-below}
+use Rattle.table.specs.Answer.{refused}
+use Rattle.table.specs.Check.{count, kindAt, leftAt, rightAt, shapeOf, isBoolean, lowest, tableRefusal, total}
+use Rattle.table.proofs.CheckLaw.{both-true, unless-none, or-none, Sound, known-kind, table-sized, table-sound, lowest-some, none-below}
 use Rattle.table.proofs.KindLaw.{every}
 use Rattle.psl.specs.Check.{pslRules, one, names, namesAt, uses, useRefusal, rootRefusal, treeRefusal, pslRefusal}
 use Rattle.psl.specs.Counts.{Tallied}

@@ -1,6 +1,6 @@
 -- The value of a node of a table that is not refused, by the values of its operands.
-use Prim.Native.Nat.{ℕ, zero, suc, _+_, _*_, _-_, _/_, _≤_, _<_}
-use mathlib.Core.Path.{_≡_, refl, sym, ap, ap₂, subst, _∙_}
+use Prim.Native.Nat.{ℕ, zero, suc, _+_, _*_, _-_, _<_}
+use mathlib.Core.Path.{_≡_, refl, sym, ap, _∙_}
 use mathlib.Core.Bool.{true}
 use mathlib.Core.List.{List, [], _∷_}
 use mathlib.Core.Option.{none}
@@ -8,11 +8,11 @@ use native.Mathlib.Omega.{arith}
 use lib.ListN.{length, getD, take}
 use Rattle.table.specs.declared.Place.{Place}
 use Rattle.table.specs.declared.Rules.{Rules}
-use Rattle.table.specs.Node.{Node, node, nodesOf, look, grow, values, root}
+use Rattle.table.specs.Node.{Node, node, nodesOf, look, grow, root}
 use Rattle.table.specs.Check.{count, kindAt, leftAt, rightAt, nodeAt, shapeOf, tableRefusal}
 use Rattle.table.specs.Value.{valueAt}
 use Rattle.table.proofs.NodeLaw.{length-grow, look-take, value-node}
-use Rattle.table.proofs.CheckLaw.{Sound, table-sound, kind-in, fit-below}
+use Rattle.table.proofs.CheckLaw.{table-sound, kind-in, fit-below}
 
 -- ── Nodes by their numbers ──
 

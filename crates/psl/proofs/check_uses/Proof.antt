@@ -1,6 +1,6 @@
 -- `check_uses` answers for the lowest node that is not used once, then for the last: the loop passes nodes that are used once.
 use borrow.Author.Needs.{needs}
-use Prim.Native.Nat.{_-_, _≤_, _<_}
+use Prim.Native.Nat.{_-_, _≤_}
 use mathlib.Core.Path.{_≡_, sym, ap}
 use mathlib.Core.Option.{none}
 use native.Mathlib.Omega.{arith}

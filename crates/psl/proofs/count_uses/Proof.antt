@@ -1,10 +1,10 @@
 -- `count_uses` counts the operands of one node after the other.
 use borrow.Author.Needs.{needs}
-use Prim.Native.Nat.{ℕ, _+_, _*_, _-_, _^_, _≤_, _<_}
-use mathlib.Core.Path.{_≡_, refl, ap, subst}
+use Prim.Native.Nat.{ℕ, _*_, _-_, _^_, _≤_, _<_}
+use mathlib.Core.Path.{_≡_, refl, subst}
 use native.Mathlib.Omega.{arith}
-use lib.ListN.{length, getD, length-set}
-use Rattle.table.specs.Check.{count, kindAt, leftAt, shapeOf}
+use lib.ListN.{length, length-set}
+use Rattle.table.specs.Check.{count, kindAt, shapeOf}
 use Rattle.psl.specs.Check.{pslRules, one}
 use Rattle.psl.specs.Counts.{Tallied}
 use Rattle.psl.proofs.CheckLaw.{kind-low, left-low, right-low, left-count, right-in, right-count, tallied-next}
