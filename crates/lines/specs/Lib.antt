@@ -1,0 +1,6 @@
+pub mod Text
+pub mod Spelling
+pub mod Closing
+pub mod Places
+pub mod Number
+pub mod Scan

@@ -1,0 +1,2 @@
+// Lines of text: formula and trace lines in, node lines out.
+mod scan;
