@@ -2,3 +2,9 @@
 pub mod PlaceLaw
 pub mod NumberLaw
 pub mod ScanLaw
+pub mod WordLaw
+pub mod FormLaw
+pub mod FormulaLaw
+pub mod TableLaw
+pub mod KeywordLaw
+pub mod ReaderLaw

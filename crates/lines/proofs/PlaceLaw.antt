@@ -68,19 +68,23 @@ stops-here {L} {s} {i} b h z heads w l =
     }
 
 -- In the first part of a word.
-pub stops-first : {L M : Language} {s : List ℕ} {i p : ℕ} → Stops M s i p → ((w : List ℕ) → M w → (x : List ℕ) × L (w ++ x))
-    → ((w : List ℕ) → L w → Begins M w) → Stops L s i p
-stops-first {L} {M} {s} {i} {p} a inc dec =
+pub halts-first : {L M Q R : Language} {s : List ℕ} {i p : ℕ} → Halts M Q s i p → ((w : List ℕ) → M w → (x : List ℕ) × L (w ++ x))
+    → ((x : List ℕ) → R x → Q x) → Halts L R s i p
+halts-first {L} {M} {Q} {R} {s} {i} {p} a inc dec =
     let (q, r, e, m) = a .begun in
     let (x, l) = inc (q ++ r) m in
     record {
       after = a .after;
       within = a .within;
       begun = (q, r ++ x, e, subst L (append-assoc q r x) l);
-      none = λ s′ g (w, t, l′, d).
-          let (y, z, n, u) = dec w l′ in
-          a .none s′ g (y, z ++ t, n, d ∙ ap (λ (v : List ℕ). v ++ t) u ∙ append-assoc y z t);
+      none = λ s′ g l′. a .none s′ g (dec (drop i s′) l′);
     }
+
+-- A line that begins with a word whose first part is one begins with that part.
+pub begins-first : {L M : Language} → ((w : List ℕ) → L w → Begins M w) → (x : List ℕ) → Begins L x → Begins M x
+begins-first dec x (w, t, l, d) =
+    let (y, z, n, u) = dec w l in
+    (y, z ++ t, n, d ∙ ap (λ (v : List ℕ). v ++ t) u ∙ append-assoc y z t)
 
 -- After a part that stands.
 pub halts-after : {L M Q R : Language} {v s : List ℕ} {i j p : ℕ} → Stands v s i j → Halts M Q s j p → ((w : List ℕ) → M w → L (v ++ w))

@@ -10,7 +10,7 @@ use native.Mathlib.Nat.{add-zero}
 use lib.ListN.{length, getD, take, drop, drop-of-length-le, take-append-drop, List·getD-eq-default}
 use lib.Seq.{take-suc, take-all, split-at}
 use Rattle.lines.specs.Spelling.{digits}
-use Rattle.lines.specs.Places.{byteAt, Stands, Stops}
+use Rattle.lines.specs.Places.{byteAt, Stands, Agree, Stops}
 use Rattle.lines.specs.Number.{IsDigit, NoDigit, Numeral}
 use Rattle.lines.specs.Scan.{Counts, NumberStands, NumberRead, WordRead}
 use Rattle.lines.specs.declared.scan.Number.the-variants.{Small, Large}
@@ -41,6 +41,10 @@ module _ (s : List ℕ) (i : ℕ) where
 
   pub the-digit : (b : ℕ) → b ≡ byteAt s i → i < length s → 48 ≤ b → Stands ((48 + (b - 48)) ∷ []) s i (i + 1)
   the-digit b e h g = stands-one (48 + (b - 48)) (sym e ∙ omega arith) h
+
+-- It depends on the byte there alone.
+pub no-digit-agree : {n : ℕ} {s s′ : List ℕ} (i : ℕ) → i < n → Agree n s s′ → NoDigit (drop i s) → NoDigit (drop i s′)
+no-digit-agree {n} {s} {s′} i h g z = no-digit s′ i (byteAt s′ i) refl (λ d. digit-not s i z (subst IsDigit (sym (agree-byte i h g)) d))
 
 -- ── Numbers ──
 

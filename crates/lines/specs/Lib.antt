@@ -4,3 +4,5 @@ pub mod Closing
 pub mod Places
 pub mod Number
 pub mod Scan
+pub mod Form
+pub mod Reader

@@ -1,2 +1,3 @@
 // Lines of text: formula and trace lines in, node lines out.
+pub mod formula;
 mod scan;
