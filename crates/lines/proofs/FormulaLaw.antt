@@ -183,12 +183,15 @@ part-form (abort f b) = rw (part-form f, part-bool b)
 
 -- ── No two formulas are spelled alike ──
 
--- What follows `(psl ` up to the closing bracket.
+pub spell-unique : (f g : Formula) (t u : List ℕ) → spell f ++ t ≡ spell g ++ u → (f ≡ g) × (t ≡ u)
+spell-unique f g t u e =
+    let (p, q) = form-unique (form f) (form g) 1 t u (form-sorted f) (form-sorted g) (simp form-bytes e) in
+    (ap asFormula (sym (part-form f) ∙ ap part p ∙ part-form g), q)
+
 pub line-unique : (f g : Formula) (t u : List ℕ) → formulaLine f ++ t ≡ formulaLine g ++ u → (f ≡ g) × (t ≡ u)
 line-unique f g t u e =
-    let d = append-cancel-left (text "(psl ") _ _ e in
-    let (p, q) = form-unique (form f) (form g) 1 (41 ∷ t) (41 ∷ u) (form-sorted f) (form-sorted g) (simp form-bytes (simp append-assoc at d)) in
-    (ap asFormula (sym (part-form f) ∙ ap part p ∙ part-form g), tail-eq-of-cons-eq q)
+    let (p, q) = spell-unique f g (41 ∷ t) (41 ∷ u) (simp append-assoc at (append-cancel-left (text "(psl ") _ _ e)) in
+    (p, tail-eq-of-cons-eq q)
 
 pub formula-injective : (f g : Formula) → formulaLine f ≡ formulaLine g → f ≡ g
 formula-injective f g e = line-unique f g [] [] (ap (λ (x : List ℕ). x ++ []) e) .0

@@ -8,3 +8,4 @@ pub mod FormulaLaw
 pub mod TableLaw
 pub mod KeywordLaw
 pub mod ReaderLaw
+pub mod LineLaw

@@ -1,6 +1,7 @@
 pub mod Text
 pub mod Spelling
 pub mod Closing
+pub mod Answer
 pub mod Places
 pub mod Number
 pub mod Scan

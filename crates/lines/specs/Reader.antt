@@ -8,7 +8,11 @@ use lib.ListN.{length, drop}
 use lib.Seq.{sets}
 use lib.Dec.{T}
 use Rattle.table.specs.Node.{Node, numbersOf}
-use Rattle.lines.specs.Places.{Language, Begins, Stands, Halts, Stops}
+use Rattle.psl.specs.Formula.{Formula}
+use Rattle.lines.specs.Spelling.{formulaLine}
+use Rattle.lines.specs.Closing.{table}
+use Rattle.lines.specs.Answer.{mostBytes, largeSignal}
+use Rattle.lines.specs.Places.{Language, Begins, Stands, Halts, Stops, StopsLine}
 use Rattle.lines.specs.Number.{NoDigit}
 use Rattle.lines.specs.Form.{Form, truth, signal, one, two, word, kinds, elem, Sorted, OfKind, bytes, inner, closed, wide}
 use Rattle.lines.specs.declared.formula.Word.{Word}
@@ -17,10 +21,6 @@ use Rattle.lines.specs.declared.formula.Read.{Read}
 use Rattle.lines.specs.declared.formula.Read.the-variants as Read
 use Rattle.lines.specs.declared.formula.Operands.{Operands}
 use Rattle.lines.specs.declared.formula.Operands.the-variants as Operands
-
--- The most bytes of a line.
-abbrev pub mostBytes : ℕ
-mostBytes = 16384
 
 -- A place in a line that is not too long, with no more nodes than bytes before it.
 pub record Fits (s : List ℕ) (at n : ℕ) : Type 0 where
@@ -93,3 +93,19 @@ abbrev pub OperandsRead : ℕ → List ℕ → ℕ → ℕ → List ℕ → List
 OperandsRead kind s at n l l′ (Operands.Got next nodes left right large) =
     (f : Form) × OfKind kind f × OperandsStand f s at n next nodes kind left right large l l′
 OperandsRead kind s at n l l′ (Operands.No p) = Stops (OperandsOf kind) s at p
+
+-- ── A whole line ──
+
+abbrev pub FormulaLine : Language
+FormulaLine w = (f : Formula) × (w ≡ formulaLine f)
+
+pub record WholeStands (f : Formula) (s : List ℕ) (nodes : ℕ) (large : Bool) (l l′ : List ℕ) : Type 0 where
+  pub is : s ≡ formulaLine f
+  pub counted : nodes ≡ length (table f)
+  pub few : nodes ≤ length s
+  pub signals : large ≡ largeSignal (table f)
+  pub written : large ≡ false → l′ ≡ filled l (table f)
+
+abbrev pub WholeRead : List ℕ → List ℕ → List ℕ → Read → Type 0
+WholeRead s l l′ (Read.Got next nodes large) = (f : Formula) × WholeStands f s nodes large l l′
+WholeRead s l l′ (Read.No p) = StopsLine FormulaLine s 0 p

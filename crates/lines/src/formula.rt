@@ -1,4 +1,5 @@
 // Formula lines: nested brackets, read by two functions that call each other.
+use crate::scan;
 use crate::scan::Number;
 use crate::scan::byte;
 use crate::scan::match_word;
@@ -12,7 +13,13 @@ ghost use lib.ListN.{length, set};
 ghost use lib.Seq.{sets};
 ghost use Rattle.lines.specs.Form.{word, shape as shapeOf, kinds};
 ghost use Rattle.lines.specs.Places.{byteAt};
-ghost use Rattle.lines.specs.Reader.{Fits, Known, KeywordRead, FormRead, OperandsRead};
+ghost use Rattle.lines.specs.Answer.{mostBytes, FormulaAnswer};
+ghost use Rattle.lines.specs.Reader.{Fits, Known, KeywordRead, FormRead, OperandsRead, WholeRead};
+
+// The most nodes of a PSL table, and the largest signal.
+const MOST_NODES: usize = 1024;
+
+const LARGEST_SIGNAL: u64 = 31;
 
 // A number at a place, nothing past the end.
 pub fn put(out: &mut [u16], at: usize, v: u16)
@@ -150,7 +157,7 @@ pub fn read_signal(s: &[u8], at: usize, n: usize) -> Operands
     requires { ⌜ Fits (now s) at n ⌝ }
     ensures { λ r. ⌜ ((l : List ℕ) → OperandsRead 1 (now (s .entry)) at n l l r) ⌝ }
 {
-    match read_number(s, at, 31) {
+    match read_number(s, at, LARGEST_SIGNAL) {
         Number::No(p) => Operands::No(p),
         Number::Large(next) => Operands::Got {
             next,
@@ -245,6 +252,64 @@ pub fn read_operands(s: &[u8], at: usize, kind: u16, out: &mut [u16], n: usize) 
                     }
                 }
             }
+        }
+    }
+}
+
+// A formula line, its nodes numbered from 0.
+pub fn read_whole(s: &[u8], out: &mut [u16]) -> Read
+    requires { ⌜ length (now s) ≤ mostBytes ⌝ }
+    ensures { λ r. ⌜ WholeRead (now (s .entry)) (now (out .entry)) (now (out .exit)) r ⌝ }
+{
+    let p = match_word(s, 0, b"(psl ");
+    if p != 5 {
+        return Read::No(p);
+    }
+    match read_form(s, 5, 1, out, 0) {
+        Read::No(q) => Read::No(q),
+        Read::Got { next, nodes, large } => {
+            if byte(s, next) != 41 {
+                return Read::No(next);
+            }
+            if next + 1 != s.len() {
+                return Read::No(next + 1);
+            }
+            Read::Got {
+                next: next + 1,
+                nodes,
+                large,
+            }
+        }
+    }
+}
+
+pub enum Line {
+    Nodes(usize),
+    Refused(Refusal),
+}
+
+// A formula line's table into the lent list. The line is read twice: first with no room, and again where nothing is to be refused.
+pub fn read_formula(line: &[u8], out: &mut [u16]) -> Line
+    ensures { λ r. ⌜ FormulaAnswer (now (line .entry)) (now (out .entry)) r (now (out .exit)) ⌝ }
+{
+    if scan::MOST_BYTES < line.len() {
+        return Line::Refused(Refusal(17));
+    }
+    let mut none = [0u16; 1];
+    match read_whole(line, &mut none) {
+        Read::No(p) => Line::Refused(Refusal(18)),
+        Read::Got { next, nodes, large } => {
+            if MOST_NODES < nodes {
+                return Line::Refused(Refusal(19));
+            }
+            if large {
+                return Line::Refused(Refusal(20));
+            }
+            if out.len() < 3 * nodes {
+                return Line::Refused(Refusal(23));
+            }
+            read_whole(line, out);
+            Line::Nodes(nodes)
         }
     }
 }

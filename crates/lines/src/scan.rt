@@ -5,6 +5,9 @@ ghost use lib.ListN.{length, drop};
 ghost use Rattle.lines.specs.Places.{byteAt};
 ghost use Rattle.lines.specs.Scan.{DigitRead, Counts, NumberRead, WordRead};
 
+// The most bytes of a line.
+pub const MOST_BYTES: usize = 16384;
+
 // The byte at a place, 256 past the end.
 pub fn byte(s: &[u8], at: usize) -> u16
     ensures { λ r. ⌜ (r ≡ byteAt (now (s .entry)) at) × (r < 256 → at < length (now (s .entry))) ⌝ }
