@@ -1,4 +1,5 @@
 -- Laws that the proofs share.
+pub mod StoreLaw
 pub mod PlaceLaw
 pub mod NumberLaw
 pub mod ScanLaw
@@ -9,3 +10,5 @@ pub mod TableLaw
 pub mod KeywordLaw
 pub mod ReaderLaw
 pub mod LineLaw
+pub mod LettersLaw
+pub mod TraceLaw

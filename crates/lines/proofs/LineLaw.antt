@@ -14,7 +14,8 @@ use Rattle.psl.specs.Formula.{btrue, Formula, weak}
 use Rattle.lines.specs.Text.{text}
 use Rattle.lines.specs.Spelling.{spell, formulaLine}
 use Rattle.lines.specs.Closing.{table}
-use Rattle.lines.specs.Answer.{mostBytes, largeSignal, refused, formulaAnswer, formulaList, FormulaAnswer}
+use Rattle.lines.specs.Limits.{mostBytes}
+use Rattle.lines.specs.FormulaAnswer.{largeSignal, refused, formulaAnswer, formulaList, FormulaAnswer}
 use Rattle.lines.specs.Places.{byteAt, Stands, Agree, Begins, Stops, StopsLine}
 use Rattle.lines.specs.Form.{Form, truth, signal, one, two, arity, Sorted, bytes, closed, wide}
 use Rattle.lines.specs.Reader.{FormOf, filled, FormStands, FormulaLine, WholeStands, WholeRead}
@@ -23,6 +24,7 @@ use Rattle.lines.specs.declared.formula.Line.the-variants.{Nodes, Refuse
 use Rattle.lines.specs.declared.formula.Read.{Read}
 use Rattle.lines.specs.declared.formula.Read.the-variants.{Got, No}
 use Rattle.lines.proofs.PlaceLaw.{agree-self, stands-one, stands-join, stops-here, halts-first, begins-first, halts-after, stops-line, Nothing, stops-end}
+use Rattle.lines.proofs.StoreLaw.{or-false-right, or-assoc}
 use Rattle.lines.proofs.FormLaw.{var-arity}
 use Rattle.lines.proofs.FormulaLaw.{form, form-sorted, form-bytes, form-nodes, as-formula, spell-unique, line-unique, formula-injective}
 
@@ -30,14 +32,6 @@ use Rattle.lines.proofs.FormulaLaw.{form, form-sorted, form-bytes, form
 
 over : Node → Bool
 over (node k l r) = eqb k 1 && leb signals l
-
-or-false-right : (b : Bool) → (b || false) ≡ b
-or-false-right true = refl
-or-false-right false = refl
-
-or-assoc : (a b c : Bool) → ((a || b) || c) ≡ (a || (b || c))
-or-assoc true b c = refl
-or-assoc false b c = refl
 
 large-more : (ns : List Node) (n : Node) → largeSignal (ns ▸ n) ≡ (largeSignal ns || over n)
 unfolding over
@@ -75,14 +69,14 @@ Psl s = Stands (text "(psl ") s 0 5
 pub not-psl : {s : List ℕ} {p : ℕ} → Stops (λ w. w ≡ text "(psl ") s 0 p → StopsLine FormulaLine s 0 p
 not-psl a =
     stops-line (halts-first a (λ w e. (spell some ++ (41 ∷ []), (some, ap (λ (x : List ℕ). x ++ (spell some ++ (41 ∷ []))) e)))
-    (begins-first (λ w (f, e). (text "(psl ", spell f ++ (41 ∷ []), refl, e))))
+    (λ s′ g. begins-first (λ w (f, e). (text "(psl ", spell f ++ (41 ∷ []), refl, e))))
   where
     some : Formula
     some = weak btrue
 
 module _ {s : List ℕ} (o : Psl s) where
   pub no-form : {p : ℕ} → Stops (FormOf 1) s 5 p → StopsLine FormulaLine s 0 p
-  no-form {p} a = halts-after o (stops-line (halts-first {L = Rest} a inc (begins-first dec))) (λ w (f, e). (f, ap (λ (x : List ℕ). text "(psl " ++ x) e)) rest
+  no-form {p} a = halts-after o (stops-line (halts-first {L = Rest} a inc (λ s′ g. begins-first dec))) (λ w (f, e). (f, ap (λ (x : List ℕ). text "(psl " ++ x) e)) rest
     where
       inc : (w : List ℕ) → FormOf 1 w → (x : List ℕ) × Rest (w ++ x)
       inc w (f, sf, e) =

@@ -69,7 +69,7 @@ stops-here {L} {s} {i} b h z heads w l =
 
 -- In the first part of a word.
 pub halts-first : {L M Q R : Language} {s : List ℕ} {i p : ℕ} → Halts M Q s i p → ((w : List ℕ) → M w → (x : List ℕ) × L (w ++ x))
-    → ((x : List ℕ) → R x → Q x) → Halts L R s i p
+    → ((s′ : List ℕ) → Agree (suc p) s s′ → R (drop i s′) → Q (drop i s′)) → Halts L R s i p
 halts-first {L} {M} {Q} {R} {s} {i} {p} a inc dec =
     let (q, r, e, m) = a .begun in
     let (x, l) = inc (q ++ r) m in
@@ -77,12 +77,12 @@ halts-first {L} {M} {Q} {R} {s} {i} {p} a inc dec =
       after = a .after;
       within = a .within;
       begun = (q, r ++ x, e, subst L (append-assoc q r x) l);
-      none = λ s′ g l′. a .none s′ g (dec (drop i s′) l′);
+      none = λ s′ g l′. a .none s′ g (dec s′ g l′);
     }
 
--- A line that begins with a word whose first part is one begins with that part.
-pub begins-first : {L M : Language} → ((w : List ℕ) → L w → Begins M w) → (x : List ℕ) → Begins L x → Begins M x
-begins-first dec x (w, t, l, d) =
+-- A line that begins with a word begins with the word's first part.
+pub begins-first : {L M : Language} → ((w : List ℕ) → L w → Begins M w) → {x : List ℕ} → Begins L x → Begins M x
+begins-first dec (w, t, l, d) =
     let (y, z, n, u) = dec w l in
     (y, z ++ t, n, d ∙ ap (λ (v : List ℕ). v ++ t) u ∙ append-assoc y z t)
 

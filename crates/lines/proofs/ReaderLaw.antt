@@ -15,30 +15,16 @@ use Rattle.table.proofs.NodeLaw.{length-numbers, length-more}
 use Rattle.lines.specs.Text.{text}
 use Rattle.lines.specs.Spelling.{digits}
 use Rattle.lines.specs.Places.{byteAt, Stands, Agree, Language, Begins, Halts, Stops}
-use Rattle.lines.specs.Number.{NoDigit, Numeral}
+use Rattle.lines.specs.Number.{NoDigit, Numeral, Numbered}
 use Rattle.lines.specs.Scan.{NumberStands, WordRead}
 use Rattle.lines.specs.Form.{Form, truth, signal, one, two, word, arity, leftSort, rightSort, kinds, elem, Sorted, OfKind, bytes, inner, closed, wide}
 use Rattle.lines.specs.Reader.{WordOf, Known, FormOf, OperandsOf, filled, FormStands, Ended, OperandsStand}
 use Rattle.lines.proofs.PlaceLaw.{agree-byte, agree-less, byte-drop, stands-one, stands-join, stands-same, stops-here, halts-first, begins-first, halts-after}
 use Rattle.lines.proofs.ScanLaw.{no-digit-agree}
+use Rattle.lines.proofs.StoreLaw.{or-false, sets-sets}
 use Rattle.lines.proofs.FormLaw.{View, view, Bracketed, kind-fact, kind-sorted, kind-bytes, none-of, one-of, two-of, ended-bracket, form-unique, operands-unique, sample, sample-sorted, sample-open, kind-sample, open-bytes, word-kind, var-arity}
 
-or-false : (a b : Bool) → (a || b) ≡ false → (a ≡ false) × (b ≡ false)
-or-false true b e = let z : _≡_ {A = ℕ} 0 1 = cc e in absurd (omega arith)
-or-false false b e = (refl, e)
-
 -- ── The lent list ──
-
-sets-sets : (xs ys l : List ℕ) (i j : ℕ) → i + length xs ≡ j → sets (sets l i xs) j ys ≡ sets l i (xs ++ ys)
-sets-sets [] ys l i j e = ap (λ (n : ℕ). sets l n ys) (omega arith)
-sets-sets (x ∷ xs) ys l i j e = sets-sets xs ys _ (suc i) j (omega arith)
-
--- Three stores in a row.
-pub three : (l l1 l2 l3 : List ℕ) (i a b c : ℕ) → l1 ≡ set l i a → l2 ≡ set l1 (i + 1) b → l3 ≡ set l2 (i + 2) c → l3 ≡ sets l i (a ∷ b ∷ c ∷ [])
-three l l1 l2 l3 i a b c e f g =
-    let p : i + 1 ≡ suc i = omega arith in
-    let q : i + 2 ≡ suc (suc i) = omega arith in
-    g ∙ simp (f, e, p, q)
 
 numbers-more : (ns : List Node) (k a b : ℕ) → numbersOf (ns ▸ node k a b) ≡ numbersOf ns ++ (k ∷ a ∷ b ∷ [])
 numbers-more [] k a b = refl
@@ -65,23 +51,20 @@ module _ (s : List ℕ) (at : ℕ) (z : byteAt s at ≡ 40 → ⊥) where
           go (inl (_, y)) = absurd (n y)
           go (inr b) = (word (b .kind) ++ (inner f ++ (41 ∷ [])), e ∙ kind-bytes f (b .kind) (b .is))
 
-  pub true-part : (p : ℕ) → Stops (λ w. w ≡ text "true") s at p → Stops (FormOf 0) s at p
+  pub true-part : {p : ℕ} → Stops (λ w. w ≡ text "true") s at p → Stops (FormOf 0) s at p
   unfolding bytes
-  true-part p a =
-      let (q, r, e, u) = a .begun in
-      record {
-        after = a .after;
-        within = a .within;
-        begun = (q, r, e, (truth, refl, u));
-        none = λ s′ g (w, t, (f, sf, d), i). go s′ g w t f d i (view f 0 sf);
-      }
+  true-part {p} a = halts-first a (λ w e. ([], (truth, refl, append-nil w ∙ e))) dec
     where
-      go : (s′ : List ℕ) → Agree (suc p) s s′ → (w t : List ℕ) (f : Form) → w ≡ bytes f → drop at s′ ≡ w ++ t
-          → View 0 f → ⊥
-      go s′ g w t f d i (inl (y, _)) = a .none s′ g (w, t, d ∙ ap bytes y, i)
-      go s′ g w t f d i (inr b) =
-          z (agree-byte at (omega (arith, a .after)) g
-          ∙ byte-drop s′ at 40 _ (i ∙ ap (λ (x : List ℕ). x ++ t) d ∙ open-bytes f (b .kind) t (b .is)))
+      dec : (s′ : List ℕ) → Agree (suc p) s s′ → Begins (FormOf 0) (drop at s′) → Begins (λ w. w ≡ text "true") (drop at s′)
+      dec s′ g (w, t, (f, sf, d), i) = go (view f 0 sf)
+        where
+          go : View 0 f → Begins (λ w. w ≡ text "true") (drop at s′)
+          go (inl (y, _)) = (w, t, d ∙ ap bytes y, i)
+          go (inr b) =
+              absurd
+              (z
+              (agree-byte at (omega (arith, a .after)) g
+              ∙ byte-drop s′ at 40 _ (i ∙ ap (λ (x : List ℕ). x ++ t) d ∙ open-bytes f (b .kind) t (b .is))))
 
 pub true-stands : (s : List ℕ) (at n p : ℕ) (l l′ : List ℕ) → n ≤ at → Stands (text "true") s at p → p ≡ at + 4
     → l′ ≡ sets l (3 * n) (0 ∷ 0 ∷ 0 ∷ []) → FormStands truth s at n p (n + 1) false l l′
@@ -99,14 +82,17 @@ true-stands s at n p l l′ h a e d =
 
 -- ── A signal ──
 
-pub signal-no : (s : List ℕ) (at p : ℕ) → ((b : ℕ) → NoDigit (b ∷ []) → Stops (Numeral b) s at p) → Stops (OperandsOf 1) s at p
-signal-no s at p a =
-    halts-first (a 41 (λ d. omega (arith, d))) (λ w (n, e). ([], (signal n, refl, append-nil w ∙ e))) (begins-first dec)
+pub signal-no : {s : List ℕ} {at p : ℕ} → Halts Numeral Numbered s at p → Stops (OperandsOf 1) s at p
+signal-no a = halts-first a (λ w (n, e). (41 ∷ [], (signal n, refl, ap (λ (x : List ℕ). x ++ (41 ∷ [])) e))) (λ s′ g. dec)
   where
-    dec : (w : List ℕ) → OperandsOf 1 w → Begins (Numeral 41) w
-    dec w (f, h, e) =
-        let (n, d) = none-of f 1 h var-arity in
-        (w, [], (n, e ∙ ap (λ (g : Form). inner g ++ (41 ∷ [])) d), sym (append-nil w))
+    dec : {x : List ℕ} → Begins (OperandsOf 1) x → Numbered x
+    dec (w, t, (f, h, e), d) =
+        let (n, i) = none-of f 1 h var-arity in (
+          n,
+          41 ∷ t,
+          (λ b. omega (arith, b)),
+          d ∙ ap (λ (y : List ℕ). y ++ t) (e ∙ ap (λ (g : Form). inner g ++ (41 ∷ [])) i) ∙ append-assoc (digits n) (41 ∷ []) t,
+        )
 
 module _ (s : List ℕ) (at n next v : ℕ) (l : List ℕ) (h : n ≤ at) (a : NumberStands v s at next) where
   -- left holds the signal where it is not too large.
@@ -141,7 +127,7 @@ Open s at = Stands (40 ∷ []) s at (at + 1)
 
 pub no-word : {s : List ℕ} {at : ℕ} (so : ℕ) {p : ℕ} → Open s at → Halts (λ w. (w ≡ []) ⊎ WordOf (kinds so) w) (Begins (WordOf (kinds so))) s (at + 1) p
     → Stops (FormOf so) s at p
-no-word so o a = halts-after o (halts-first {L = λ w. FormOf so (40 ∷ w)} {R = λ x. Begins (FormOf so) (40 ∷ x)} a inc dec) (λ w l. l) (λ s′ g b. b)
+no-word so o a = halts-after o (halts-first {L = λ w. FormOf so (40 ∷ w)} {R = λ x. Begins (FormOf so) (40 ∷ x)} a inc (λ s′ g. dec)) (λ w l. l) (λ s′ g b. b)
   where
     inc : (w : List ℕ) → (w ≡ []) ⊎ WordOf (kinds so) w → (x : List ℕ) × FormOf so (40 ∷ (w ++ x))
     inc w (inl e) =
@@ -153,8 +139,8 @@ no-word so o a = halts-after o (halts-first {L = λ w. FormOf so (40 ∷ w)} {R 
           (f, kind-sorted f k so m h, ap (λ (y : List ℕ). 40 ∷ (y ++ (inner f ++ (41 ∷ [])))) e ∙ sym (kind-bytes f k h)),
         )
 
-    dec : (x : List ℕ) → Begins (FormOf so) (40 ∷ x) → Begins (WordOf (kinds so)) x
-    dec x (w, t, (f, sf, e), d) = go (view f so sf)
+    dec : {x : List ℕ} → Begins (FormOf so) (40 ∷ x) → Begins (WordOf (kinds so)) x
+    dec {x} (w, t, (f, sf, e), d) = go (view f so sf)
       where
         i : 40 ∷ x ≡ bytes f ++ t
         i = d ∙ ap (λ (y : List ℕ). y ++ t) e
@@ -237,14 +223,14 @@ module _ {s : List ℕ} {at : ℕ} (k : ℕ) where
     where
       go : (n : ℕ) → arity k ≡ n → arity k ≤ 2 → Stops (OperandsOf k) s at p
       go zero e h = absurd (z e)
-      go (suc zero) e h = halts-first a (λ w (f, sf, d). (41 ∷ [], (one k f, (refl, e, sf), ap (λ (y : List ℕ). y ++ (41 ∷ [])) d))) (begins-first dec)
+      go (suc zero) e h = halts-first a (λ w (f, sf, d). (41 ∷ [], (one k f, (refl, e, sf), ap (λ (y : List ℕ). y ++ (41 ∷ [])) d))) (λ s′ g. begins-first dec)
         where
           dec : (w : List ℕ) → OperandsOf k w → Begins (FormOf (leftSort k)) w
           dec w (f, i, d) =
               let (g, u, sg) = one-of f k i e in
               (bytes g, 41 ∷ [], (g, sg, refl), d ∙ ap (λ (y : List ℕ). y ++ (41 ∷ [])) u)
       go (suc (suc n)) e h =
-          halts-first a (λ w (f, sf, d). (32 ∷ (bytes some ++ (41 ∷ [])), (two k f some, (refl, e₂, sf, sample-sorted (rightSort k)), inc w f d))) (begins-first dec)
+          halts-first a (λ w (f, sf, d). (32 ∷ (bytes some ++ (41 ∷ [])), (two k f some, (refl, e₂, sf, sample-sorted (rightSort k)), inc w f d))) (λ s′ g. begins-first dec)
         where
           some : Form
           some = sample (rightSort k)
@@ -304,13 +290,13 @@ module _ {s : List ℕ} {at : ℕ} (k : ℕ) where
 
       module _ (o : Stands (32 ∷ []) s next (next + 1)) where
         pub second-no : {p : ℕ} → Stops (FormOf (rightSort k)) s (next + 1) p → Stops (OperandsOf k) s at p
-        second-no b = lift-second (halts-after o (halts-first {L = λ w. Second k (32 ∷ w)} {R = λ x. Begins (Second k) (32 ∷ x)} b inc dec) (λ w c. c) (λ s′ g c. c))
+        second-no b = lift-second (halts-after o (halts-first {L = λ w. Second k (32 ∷ w)} {R = λ x. Begins (Second k) (32 ∷ x)} b inc (λ s′ g. dec)) (λ w c. c) (λ s′ g c. c))
           where
             inc : (w : List ℕ) → FormOf (rightSort k) w → (x : List ℕ) × Second k (32 ∷ (w ++ x))
             inc w (g, sg, d) = (41 ∷ [], (g, sg, ap (λ (y : List ℕ). 32 ∷ (y ++ (41 ∷ []))) d))
 
-            dec : (x : List ℕ) → Begins (Second k) (32 ∷ x) → Begins (FormOf (rightSort k)) x
-            dec x (w, t, (g, sg, d), u) =
+            dec : {x : List ℕ} → Begins (Second k) (32 ∷ x) → Begins (FormOf (rightSort k)) x
+            dec (w, t, (g, sg, d), u) =
                 (bytes g, 41 ∷ t, (g, sg, refl), tail-eq-of-cons-eq (u ∙ ap (λ (y : List ℕ). y ++ t) d) ∙ append-assoc (bytes g) (41 ∷ []) t)
 
         pub two-stand : {g : Form} → Sorted (rightSort k) g → {end all : ℕ} {more : Bool} {l″ : List ℕ}

@@ -10,8 +10,8 @@ use native.Mathlib.Nat.{add-zero}
 use lib.ListN.{length, getD, take, drop, drop-of-length-le, take-append-drop, List·getD-eq-default}
 use lib.Seq.{take-suc, take-all, split-at}
 use Rattle.lines.specs.Spelling.{digits}
-use Rattle.lines.specs.Places.{byteAt, Stands, Agree, Stops}
-use Rattle.lines.specs.Number.{IsDigit, NoDigit, Numeral}
+use Rattle.lines.specs.Places.{byteAt, Stands, Agree, Halts}
+use Rattle.lines.specs.Number.{IsDigit, NoDigit, Numeral, Numbered}
 use Rattle.lines.specs.Scan.{Counts, NumberStands, NumberRead, WordRead}
 use Rattle.lines.specs.declared.scan.Number.the-variants.{Small, Large}
 use Rattle.lines.proofs.PlaceLaw.{agree-byte, agree-less, byte-drop, drop-byte, stands-one, stands-join, stands-same}
@@ -49,39 +49,35 @@ no-digit-agree {n} {s} {s′} i h g z = no-digit s′ i (byteAt s′ i) refl (λ
 -- ── Numbers ──
 
 module _ (s : List ℕ) (at : ℕ) where
-  pub number-none : at ≤ length s → NoDigit (drop at s) → (b : ℕ) → NoDigit (b ∷ []) → Stops (Numeral b) s at at
-  number-none h z b nb =
+  pub number-none : at ≤ length s → NoDigit (drop at s) → Halts Numeral Numbered s at at
+  number-none h z =
       record {
         after = omega arith;
         within = h;
-        begun = ([], digits 0 ++ (b ∷ []), refl, (0, refl));
-        none = λ s′ g (w, t, (n, e), d).
-            let (c, x, f, dc, _) = digits-first n in
-            let u : byteAt s at ≡ c =
-            agree-byte at (omega arith) g
-            ∙ byte-drop s′ at c (x ++ (b ∷ []) ++ t) (d ∙ ap (λ (y : List ℕ). y ++ t) (e ∙ ap (λ (y : List ℕ). y ++ (b ∷ [])) f)) in
-            digit-not s at z (subst IsDigit (sym u) dc);
+        begun = ([], digits 0, refl, (0, refl));
+        none = λ s′ g (n, t, _, e).
+            let (c, x, f, d, _) = digits-first n in
+            let u = agree-byte at (omega arith) g ∙ byte-drop s′ at c (x ++ t) (e ∙ ap (λ (y : List ℕ). y ++ t) f) in
+            digit-not s at z (subst IsDigit (sym u) d);
       }
 
   -- A digit after 0.
-  pub number-zeros : Stands (48 ∷ []) s at (at + 1) → (d : ℕ) → d < 10 → Stands ((48 + d) ∷ []) s (at + 1) (at + 1 + 1)
-      → (b : ℕ) → NoDigit (b ∷ []) → Stops (Numeral b) s at (at + 1)
-  number-zeros a d k o b nb =
+  pub number-zeros : Stands (48 ∷ []) s at (at + 1) → (d : ℕ) → d < 10 → Stands ((48 + d) ∷ []) s (at + 1) (at + 1 + 1) → Halts Numeral Numbered s at (at + 1)
+  number-zeros a d k o =
       record {
         after = omega arith;
         within = a .within;
-        begun = (48 ∷ [], b ∷ [], a .is, (0, rw (digits-small 0 (omega arith)) refl));
-        none = λ s′ g (w, t, (n, e), u).
+        begun = (48 ∷ [], [], a .is, (0, sym (digits-small 0 (omega arith))));
+        none = λ s′ g (n, t, z, e).
             let (c, x, f, dc, lead) = digits-first n in
-            let y = x ++ (b ∷ []) ++ t in
-            let v : 48 ∷ drop (at + 1) s′ ≡ c ∷ y =
-            sym (stands-same s′ a (agree-less (omega arith) g)) ∙ u ∙ ap (λ (z : List ℕ). z ++ t) (e ∙ ap (λ (z : List ℕ). z ++ (b ∷ [])) f) in
+            let v : 48 ∷ drop (at + 1) s′ ≡ c ∷ (x ++ t) =
+            sym (stands-same s′ a (agree-less (omega arith) g)) ∙ e ∙ ap (λ (y : List ℕ). y ++ t) f in
             let zero : n ≡ 0 = lead (sym (head-eq-of-cons-eq v)) in
             let none : x ≡ [] = tail-eq-of-cons-eq (sym f ∙ ap digits zero ∙ digits-small 0 (omega arith)) in
-            let next : drop (at + 1) s′ ≡ b ∷ t = tail-eq-of-cons-eq v ∙ ap (λ (z : List ℕ). z ++ (b ∷ []) ++ t) none in
-            let same : b ≡ 48 + d =
-            sym (byte-drop s′ (at + 1) b t next) ∙ sym (agree-byte (at + 1) (omega arith) g) ∙ byte-drop s (at + 1) (48 + d) (drop (at + 1 + 1) s) (o .is) in
-            nb (omega arith, omega arith);
+            let next : drop (at + 1) s′ ≡ t = tail-eq-of-cons-eq v ∙ ap (λ (y : List ℕ). y ++ t) none in
+            let same : byteAt s′ (at + 1) ≡ 48 + d =
+            sym (agree-byte (at + 1) (omega arith) g) ∙ byte-drop s (at + 1) (48 + d) (drop (at + 1 + 1) s) (o .is) in
+            digit-not s′ (at + 1) (subst NoDigit (sym next) z) (omega (arith, same), omega (arith, same));
       }
 
   pub number-zero : Stands (48 ∷ []) s at (at + 1) → NoDigit (drop (at + 1) s) → NumberStands 0 s at (at + 1)

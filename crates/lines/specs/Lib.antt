@@ -1,9 +1,12 @@
 pub mod Text
 pub mod Spelling
 pub mod Closing
-pub mod Answer
+pub mod Limits
+pub mod FormulaAnswer
+pub mod TraceAnswer
 pub mod Places
 pub mod Number
 pub mod Scan
 pub mod Form
 pub mod Reader
+pub mod LettersReader

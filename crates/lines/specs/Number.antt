@@ -13,6 +13,10 @@ abbrev pub NoDigit : List ℕ → Type 0
 NoDigit [] = Unit {0}
 NoDigit (b ∷ s) = IsDigit b → ⊥
 
--- Numbers up to the byte b after them.
-abbrev pub Numeral : ℕ → Language
-Numeral b w = (n : ℕ) × (w ≡ digits n ++ (b ∷ []))
+-- Some number.
+abbrev pub Numeral : Language
+Numeral w = (n : ℕ) × (w ≡ digits n)
+
+-- A number stands at the front, and no digit follows it.
+abbrev pub Numbered : Language
+Numbered x = (n : ℕ) × (t : List ℕ) × NoDigit t × (x ≡ digits n ++ t)

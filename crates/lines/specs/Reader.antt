@@ -11,7 +11,8 @@ use Rattle.table.specs.Node.{Node, numbersOf}
 use Rattle.psl.specs.Formula.{Formula}
 use Rattle.lines.specs.Spelling.{formulaLine}
 use Rattle.lines.specs.Closing.{table}
-use Rattle.lines.specs.Answer.{mostBytes, largeSignal}
+use Rattle.lines.specs.Limits.{mostBytes}
+use Rattle.lines.specs.FormulaAnswer.{largeSignal}
 use Rattle.lines.specs.Places.{Language, Begins, Stands, Halts, Stops, StopsLine}
 use Rattle.lines.specs.Number.{NoDigit}
 use Rattle.lines.specs.Form.{Form, truth, signal, one, two, word, kinds, elem, Sorted, OfKind, bytes, inner, closed, wide}

@@ -5,8 +5,8 @@ use mathlib.Core.List.{List, [], _∷_, _++_}
 use Prim.Native.Nat.{ℕ, _+_, _≤_, _<_}
 use lib.ListN.{length, drop}
 use Rattle.lines.specs.Spelling.{digits}
-use Rattle.lines.specs.Places.{byteAt, Stands, Stops}
-use Rattle.lines.specs.Number.{NoDigit, Numeral}
+use Rattle.lines.specs.Places.{Stands, Halts, Stops}
+use Rattle.lines.specs.Number.{NoDigit, Numeral, Numbered}
 use Rattle.lines.specs.declared.scan.Number.{Number}
 use Rattle.lines.specs.declared.scan.Number.the-variants.{Small, Large, No}
 
@@ -29,7 +29,7 @@ pub record NumberStands (n : ℕ) (s : List ℕ) (at next : ℕ) : Type 0 where
 abbrev pub NumberRead : List ℕ → ℕ → ℕ → Number → Type 0
 NumberRead s at limit (Small v next) = (v ≤ limit) × NumberStands v s at next
 NumberRead s at limit (Large next) = (n : ℕ) × (limit < n) × NumberStands n s at next
-NumberRead s at limit (No p) = (b : ℕ) → NoDigit (b ∷ []) → Stops (Numeral b) s at p
+NumberRead s at limit (No p) = Halts Numeral Numbered s at p
 
 -- A word stands whole, or up to r.
 pub record WordRead (w s : List ℕ) (at r : ℕ) : Type 0 where

@@ -23,10 +23,14 @@ abbrev pub ending : List (List ℕ) → List ℕ
 ending [] = text ")"
 ending (p ∷ ps) = text " " ++ (p ++ ending ps)
 
+-- Parts, a space between two, and the closing bracket.
+abbrev pub inside : List (List ℕ) → List ℕ
+inside [] = text ")"
+inside (p ∷ ps) = p ++ ending ps
+
 -- Parts in brackets.
 abbrev pub brackets : List (List ℕ) → List ℕ
-brackets [] = text "()"
-brackets (p ∷ ps) = text "(" ++ (p ++ ending ps)
+brackets ps = text "(" ++ inside ps
 
 -- ── Formulas ──
 

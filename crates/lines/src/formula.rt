@@ -2,18 +2,19 @@
 use crate::scan;
 use crate::scan::Number;
 use crate::scan::byte;
+use crate::scan::either;
 use crate::scan::match_word;
 use crate::scan::read_number;
 use trace::Refusal;
 ghost use mathlib.Core.Path.{_≡_};
 ghost use Prim.Native.Nat.{ℕ, _+_, _*_, _<_, _≤_};
 ghost use mathlib.Core.List.{List, [], _∷_};
-ghost use mathlib.Core.Bool.{_||_};
 ghost use lib.ListN.{length, set};
 ghost use lib.Seq.{sets};
 ghost use Rattle.lines.specs.Form.{word, shape as shapeOf, kinds};
 ghost use Rattle.lines.specs.Places.{byteAt};
-ghost use Rattle.lines.specs.Answer.{mostBytes, FormulaAnswer};
+ghost use Rattle.lines.specs.Limits.{mostBytes};
+ghost use Rattle.lines.specs.FormulaAnswer.{FormulaAnswer};
 ghost use Rattle.lines.specs.Reader.{Fits, Known, KeywordRead, FormRead, OperandsRead, WholeRead};
 
 // The most nodes of a PSL table, and the largest signal.
@@ -102,12 +103,6 @@ pub fn takes(kind: u16) -> Shape
         Shape(2, 1, 1),
         Shape(2, 1, 0),
     ][kind as usize]
-}
-
-pub fn either(a: bool, b: bool) -> bool
-    ensures { λ r. ⌜ r ≡ (a || b) ⌝ }
-{
-    if a { true } else { b }
 }
 
 // A form that was read: where it ends, the count of nodes then, and whether a signal is too large. Or where none can follow.

@@ -1,5 +1,6 @@
 // Reading bytes, numbers and words at a place of a line.
 ghost use mathlib.Core.Path.{_≡_};
+ghost use mathlib.Core.Bool.{_||_};
 ghost use Prim.Native.Nat.{ℕ, _+_, _*_, _<_, _≤_};
 ghost use lib.ListN.{length, drop};
 ghost use Rattle.lines.specs.Places.{byteAt};
@@ -124,4 +125,10 @@ pub fn match_word(s: &[u8], at: usize, w: &[u8]) -> usize
         i += 1;
     }
     at + i
+}
+
+pub fn either(a: bool, b: bool) -> bool
+    ensures { λ r. ⌜ r ≡ (a || b) ⌝ }
+{
+    if a { true } else { b }
 }

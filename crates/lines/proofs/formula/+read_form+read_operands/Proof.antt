@@ -21,7 +21,7 @@ use Rattle.lines.proofs.formula.+read_form+read_operands.Lts-read_form 
 use Rattle.lines.proofs.formula.read_operands.Reads as read-operands
 use Rattle.lines.proofs.formula.read_operands.Kinds as read-operands-kinds
 use Rattle.lines.proofs.formula.+read_form+read_operands.Lts-read_operands as read-operands-lts
-use Rattle.lines.proofs.formula.either.Reads as either-reads
+use Rattle.lines.proofs.scan.either.Reads as either-reads
 use Rattle.lines.proofs.formula.keyword.Reads as keyword-reads
 use Rattle.lines.proofs.formula.put_node.Reads as put-node-reads
 use Rattle.lines.proofs.formula.read_signal.Reads as read-signal-reads

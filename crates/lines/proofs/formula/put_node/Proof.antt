@@ -1,7 +1,7 @@
 -- Three stores in a row.
 use borrow.Author.Needs.{needs}
 use Prim.Native.Nat.{_*_}
-use Rattle.lines.proofs.ReaderLaw.{three}
+use Rattle.lines.proofs.StoreLaw.{three}
 use Rattle.lines.proofs.formula.put_node.Statement.{statement}
 use Rattle.lines.proofs.formula.put_node.Tie as tie
 

@@ -36,7 +36,7 @@ returns-2 c =
     let x = start .args in
     let s = x .s .now in
     let at = x .at in
-    subst (λ (so : ℕ). Stops (FormOf so) s at (at-match-word .match-word .result)) (sym (at-if1 .if1 .left)) (true-part s at (start .pre .1) (at-match-word .match-word .result) (at-match-word .match-word .ensures .part (c .if2 .taken)))
+    subst (λ (so : ℕ). Stops (FormOf so) s at (at-match-word .match-word .result)) (sym (at-if1 .if1 .left)) (true-part s at (start .pre .1) (at-match-word .match-word .ensures .part (c .if2 .taken)))
 
 put-node-requires : tie.Need-put-node-requires
 put-node-requires c κs =

@@ -19,7 +19,10 @@ abbrev μ-loop : tie.MeasureT-loop
 loop-holds : tie.Need-loop-holds Inv-loop μ-loop
 loop-holds c =
     let start = c .before .before in
-    let s = start .args .s .now in let w = start .args .w .now in let at = start .args .at in (omega arith, word-none w s at (omega arith))
+    let s = start .args .s .now in
+    let w = start .args .w .now in
+    let at = start .args .at in
+    (omega arith, word-none w s at (omega arith))
 
 add-byte : tie.Need-add-byte Inv-loop μ-loop
 add-byte c =
@@ -48,7 +51,10 @@ returns c =
     let at-loop = c .before .before .before .before in
     let at-loop-test = c .before .before .before in
     let at-byte = c .before .before in
-    let s = start .args .s .now in let w = start .args .w .now in let at = start .args .at in word-part w s at (at-loop .loop .i) (at-loop .loop .inv .1) (at-loop-test .loop-test .taken) (λ e. c .if1 .taken (at-byte .byte .ensures .0 ∙ e))
+    let s = start .args .s .now in
+    let w = start .args .w .now in
+    let at = start .args .at in
+    word-part w s at (at-loop .loop .i) (at-loop .loop .inv .1) (at-loop-test .loop-test .taken) (λ e. c .if1 .taken (at-byte .byte .ensures .0 ∙ e))
 
 add-i : tie.Need-add-i Inv-loop μ-loop
 add-i c = search needs
@@ -63,7 +69,10 @@ loop-again c =
     let at-byte = c .before .before in
     let at-shared-slice-known3 = c .before in
     let at-loop-test = c .before .before .before in
-    let s = start .args .s .now in let w = start .args .w .now in let at = start .args .at in let i = at-loop .loop .i in
+    let s = start .args .s .now in
+    let w = start .args .w .now in
+    let at = start .args .at in
+    let i = at-loop .loop .i in
     let in-s : at + i < length s = at-byte .byte .ensures .1 (omega (arith, c .if1 .left, at-shared-slice-known3 .shared-slice-known3 .given i)) in
     (omega arith, word-more w s at i (at-loop .loop .inv .1) (at-loop-test .loop-test .taken) in-s (sym (at-byte .byte .ensures .0) ∙ c .if1 .left))
 
@@ -76,7 +85,10 @@ returns-2 : tie.Need-returns-2 Inv-loop μ-loop
 returns-2 c =
     let start = c .before .before .before .before in
     let at-loop = c .before in
-    let s = start .args .s .now in let w = start .args .w .now in let at = start .args .at in word-whole w s at (at-loop .loop .i) (at-loop .loop .inv .1) (omega arith) (omega arith)
+    let s = start .args .s .now in
+    let w = start .args .w .now in
+    let at = start .args .at in
+    word-whole w s at (at-loop .loop .i) (at-loop .loop .inv .1) (omega arith) (omega arith)
 
 pub match-word-spec : {M : Type 1} → statement M
 match-word-spec =

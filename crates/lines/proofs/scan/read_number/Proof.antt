@@ -24,7 +24,9 @@ returns : tie.Need-returns Inv-loop μ-loop
 returns c =
     let start = c .before .before .before in
     let at-digit = c .before in
-    let s = start .args .s .now in let at = start .args .at in number-none s at (omega arith) (at-digit .digit .ensures .none (omega arith))
+    let s = start .args .s .now in
+    let at = start .args .at in
+    number-none s at (omega arith) (at-digit .digit .ensures .none (omega arith))
 
 add-digit : tie.Need-add-digit Inv-loop μ-loop
 add-digit c =
@@ -45,7 +47,9 @@ returns-2 c =
     let at-if2 = c .before .before in
     let at-digit = c .before .before .before .before in
     let at-digit2 = c .before in
-    let s = start .args .s .now in let at = start .args .at in number-zeros s at (subst (λ (d : ℕ). Stands ((48 + d) ∷ []) s at (at + 1)) (at-if2 .if2 .taken) (at-digit .digit .ensures .is (omega arith))) (at-digit2 .digit2 .result) (c .if3 .taken) (at-digit2 .digit2 .ensures .is (c .if3 .taken))
+    let s = start .args .s .now in
+    let at = start .args .at in
+    number-zeros s at (subst (λ (d : ℕ). Stands ((48 + d) ∷ []) s at (at + 1)) (at-if2 .if2 .taken) (at-digit .digit .ensures .is (omega arith))) (at-digit2 .digit2 .result) (c .if3 .taken) (at-digit2 .digit2 .ensures .is (c .if3 .taken))
 
 add-t10 : tie.Need-add-t10 Inv-loop μ-loop
 add-t10 c =
@@ -58,7 +62,9 @@ returns-3 c =
     let at-if2 = c .before .before in
     let at-digit = c .before .before .before .before in
     let at-digit2 = c .before in
-    let s = start .args .s .now in let at = start .args .at in (omega arith, number-zero s at (subst (λ (d : ℕ). Stands ((48 + d) ∷ []) s at (at + 1)) (at-if2 .if2 .taken) (at-digit .digit .ensures .is (omega arith))) (at-digit2 .digit2 .ensures .none (omega arith)))
+    let s = start .args .s .now in
+    let at = start .args .at in
+    (omega arith, number-zero s at (subst (λ (d : ℕ). Stands ((48 + d) ∷ []) s at (at + 1)) (at-if2 .if2 .taken) (at-digit .digit .ensures .is (omega arith))) (at-digit2 .digit2 .ensures .none (omega arith)))
 
 push-requires : tie.Need-push-requires Inv-loop μ-loop
 push-requires c κs = search needs
@@ -72,7 +78,9 @@ loop-holds : tie.Need-loop-holds Inv-loop μ-loop
 loop-holds c =
     let start = c .before .before .before .before .before in
     let at-digit = c .before .before .before in
-    let s = start .args .s .now in let at = start .args .at in (10 * 0 + at-digit .digit .result, so-far-one s at (at-digit .digit .result) (omega arith) (omega arith) (at-digit .digit .ensures .is (omega arith)), c .push .ensures 0 (refl, omega arith))
+    let s = start .args .s .now in
+    let at = start .args .at in
+    (10 * 0 + at-digit .digit .result, so-far-one s at (at-digit .digit .result) (omega arith) (omega arith) (at-digit .digit .ensures .is (omega arith)), c .push .ensures 0 (refl, omega arith))
 
 digit-requires-3 : tie.Need-digit-requires-3 Inv-loop μ-loop
 digit-requires-3 c κs = search needs
@@ -95,21 +103,30 @@ loop-again c =
     let start = c .before .before .before .before .before .before .before .before .before in
     let at-loop = c .before .before .before in
     let at-digit3 = c .before .before in
-    let s = start .args .s .now in let at = start .args .at in let inv = at-loop .loop .inv in (10 * inv .0 + at-digit3 .digit3 .result, so-far-more s at (at-digit3 .digit3 .result) (omega arith) (inv .1) (at-digit3 .digit3 .ensures .is (omega arith)), c .push2 .ensures (inv .0) (inv .2))
+    let s = start .args .s .now in
+    let at = start .args .at in
+    let inv = at-loop .loop .inv in
+    (10 * inv .0 + at-digit3 .digit3 .result, so-far-more s at (at-digit3 .digit3 .result) (omega arith) (inv .1) (at-digit3 .digit3 .ensures .is (omega arith)), c .push2 .ensures (inv .0) (inv .2))
 
 returns-4 : tie.Need-returns-4 Inv-loop μ-loop
 returns-4 c =
     let start = c .before .before .before .before .before .before .before .before .before in
     let at-loop = c .before .before .before in
     let at-digit3 = c .before .before in
-    let s = start .args .s .now in let at = start .args .at in let inv = at-loop .loop .inv in number-large s at _ _ (c .if5 .taken) (inv .1) (inv .2) (at-digit3 .digit3 .ensures .none (omega arith))
+    let s = start .args .s .now in
+    let at = start .args .at in
+    let inv = at-loop .loop .inv in
+    number-large s at _ _ (c .if5 .taken) (inv .1) (inv .2) (at-digit3 .digit3 .ensures .none (omega arith))
 
 returns-5 : tie.Need-returns-5 Inv-loop μ-loop
 returns-5 c =
     let start = c .before .before .before .before .before .before .before .before .before in
     let at-loop = c .before .before .before in
     let at-digit3 = c .before .before in
-    let s = start .args .s .now in let at = start .args .at in let inv = at-loop .loop .inv in number-small s at _ _ (c .if5 .left) (inv .1) (inv .2) (at-digit3 .digit3 .ensures .none (omega arith))
+    let s = start .args .s .now in
+    let at = start .args .at in
+    let inv = at-loop .loop .inv in
+    number-small s at _ _ (c .if5 .left) (inv .1) (inv .2) (at-digit3 .digit3 .ensures .none (omega arith))
 
 pub read-number-spec : {M : Type 1} → statement M
 read-number-spec =

@@ -11,15 +11,9 @@ use Rattle.table.specs.Node.{Node, node, numbersOf}
 use Rattle.psl.specs.Formula.{Formula}
 use Rattle.lines.specs.Spelling.{formulaLine}
 use Rattle.lines.specs.Closing.{table}
+use Rattle.lines.specs.Limits.{mostBytes, mostNodes}
 use Rattle.lines.specs.declared.formula.Line.{Line}
 use Rattle.lines.specs.declared.formula.Line.the-variants.{Nodes, Refused}
-
--- The most bytes of a line, without its end; the most nodes of a PSL table.
-abbrev pub mostBytes : ℕ
-mostBytes = 16384
-
-abbrev pub mostNodes : ℕ
-mostNodes = 1024
 
 -- Some node is a variable whose signal is not below `signals`.
 abbrev pub largeSignal : List Node → Bool
