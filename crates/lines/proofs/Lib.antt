@@ -12,3 +12,5 @@ pub mod ReaderLaw
 pub mod LineLaw
 pub mod LettersLaw
 pub mod TraceLaw
+pub mod WriterLaw
+pub mod NodeLaw

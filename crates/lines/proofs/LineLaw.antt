@@ -11,11 +11,12 @@ use lib.Dec.{eqb, ltb, leb}
 use Rattle.trace.specs.Letter.{signals}
 use Rattle.table.specs.Node.{Node, node, _▸_, last}
 use Rattle.psl.specs.Formula.{btrue, Formula, weak}
+use Rattle.table.specs.Answer.{refused}
 use Rattle.lines.specs.Text.{text}
 use Rattle.lines.specs.Spelling.{spell, formulaLine}
 use Rattle.lines.specs.Closing.{table}
 use Rattle.lines.specs.Limits.{mostBytes}
-use Rattle.lines.specs.FormulaAnswer.{largeSignal, refused, formulaAnswer, formulaList, FormulaAnswer}
+use Rattle.lines.specs.FormulaAnswer.{largeSignal, formulaAnswer, formulaList, FormulaAnswer}
 use Rattle.lines.specs.Places.{byteAt, Stands, Agree, Begins, Stops, StopsLine}
 use Rattle.lines.specs.Form.{Form, truth, signal, one, two, arity, Sorted, bytes, closed, wide}
 use Rattle.lines.specs.Reader.{FormOf, filled, FormStands, FormulaLine, WholeStands, WholeRead}
@@ -134,10 +135,10 @@ module _ {s : List ℕ} (o : Psl s) where
 
 -- ── The answer ──
 
-pub too-long : (s l : List ℕ) → mostBytes < length s → FormulaAnswer s l (refused 17) l
+pub too-long : (s l : List ℕ) → mostBytes < length s → FormulaAnswer s l (Refused (refused 17)) l
 too-long s l h = record { long = λ _. (refl, refl); stray = λ g z. absurd (omega arith); spelt = λ g f e. absurd (omega arith) }
 
-pub no-formula : (s l : List ℕ) {p : ℕ} → length s ≤ mostBytes → StopsLine FormulaLine s 0 p → FormulaAnswer s l (refused 18) l
+pub no-formula : (s l : List ℕ) {p : ℕ} → length s ≤ mostBytes → StopsLine FormulaLine s 0 p → FormulaAnswer s l (Refused (refused 18)) l
 no-formula s l {p} h a =
     record {
       long = λ g. absurd (omega arith);
@@ -158,20 +159,20 @@ answers s l m r f h e v w =
 
 -- The line spells f; a and b are the list of the reading without room.
 module _ {s : List ℕ} (l : List ℕ) {f : Formula} {nodes : ℕ} {large : Bool} {a b : List ℕ} (h : length s ≤ mostBytes) (x : WholeStands f s nodes large a b) where
-  pub many-nodes : 1024 < nodes → FormulaAnswer s l (refused 19) l
-  many-nodes i = answers s l l (refused 19) f h (x .is) (rw (lt-ltb 1024 (length (table f)) (omega (arith, x .counted)))) refl
+  pub many-nodes : 1024 < nodes → FormulaAnswer s l (Refused (refused 19)) l
+  many-nodes i = answers s l l (Refused (refused 19)) f h (x .is) (rw (lt-ltb 1024 (length (table f)) (omega (arith, x .counted)))) refl
 
   module _ (i : nodes ≤ 1024) where
     few : ltb 1024 (length (table f)) ≡ false
     few = le-ltb 1024 (length (table f)) (omega (arith, x .counted))
 
-    pub large-signal : large ≡ true → FormulaAnswer s l (refused 20) l
-    large-signal j = answers s l l (refused 20) f h (x .is) (rw (few, sym (x .signals) ∙ j)) refl
+    pub large-signal : large ≡ true → FormulaAnswer s l (Refused (refused 20)) l
+    large-signal j = answers s l l (Refused (refused 20)) f h (x .is) (rw (few, sym (x .signals) ∙ j)) refl
 
     module _ (j : large ≡ false) where
-      pub no-room : length l < 3 * nodes → FormulaAnswer s l (refused 23) l
+      pub no-room : length l < 3 * nodes → FormulaAnswer s l (Refused (refused 23)) l
       no-room k =
-          answers s l l (refused 23) f h (x .is)
+          answers s l l (Refused (refused 23)) f h (x .is)
           (rw (few, sym (x .signals) ∙ j, lt-ltb (length l) (3 * length (table f)) (omega (arith, x .counted)))) refl
 
       pub table-read : 3 * nodes ≤ length l → (m : List ℕ) (r : Read) → WholeRead s l m r → FormulaAnswer s l (Nodes nodes) m

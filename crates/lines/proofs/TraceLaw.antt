@@ -8,16 +8,17 @@ use borrow.Author.Tests.{lt-ltb, le-ltb}
 use lib.ListN.{length, drop}
 use lib.Seq.{sets, drop-length}
 use lib.Dec.{ltb}
+use Rattle.table.specs.Answer.{refused}
 use Rattle.lines.specs.Text.{text}
 use Rattle.lines.specs.Spelling.{digits, ending, inside, traceLine}
 use Rattle.lines.specs.Limits.{mostBytes}
-use Rattle.lines.specs.TraceAnswer.{largeLetter, refused, traceAnswer, traceList, TraceAnswer}
+use Rattle.lines.specs.TraceAnswer.{largeLetter, traceAnswer, traceList, TraceAnswer}
 use Rattle.lines.specs.Places.{byteAt, Stands, Agree, Language, Begins, Halts, Stops, StopsLine}
 use Rattle.lines.specs.LettersReader.{further, listed, Any, Some, Spelled, LettersStand, finiteRest, lassoRest, wholeLine, ListsStand, ListsRead}
 use Rattle.lines.specs.declared.traces.Lists.{Lists}
 use Rattle.lines.specs.declared.traces.Lists.the-variants.{Got, No}
 use Rattle.lines.specs.declared.traces.TraceLine.{TraceLine}
-use Rattle.lines.specs.declared.traces.TraceLine.the-variants.{Letters}
+use Rattle.lines.specs.declared.traces.TraceLine.the-variants.{Letters, Refused}
 use Rattle.lines.proofs.StoreLaw.{or-false, or-false-right}
 use Rattle.lines.proofs.PlaceLaw.{agree-self, agree-less, stands-one, stands-join, stops-here, halts-first, begins-first, halts-after, stops-line, Nothing, stops-end}
 use Rattle.lines.proofs.LettersLaw.{further-unique, list-unique}
@@ -147,8 +148,8 @@ abbrev Lasso : Language
 Lasso w = w ≡ text "(lasso ("
 
 -- The second byte tells which of the two it is.
-not-both : (lead y loop : List ℕ) → text "(finite" ++ lead ≡ text "(lasso (" ++ loop → ⊥
-not-both lead y loop e = omega (arith, head-eq-of-cons-eq (tail-eq-of-cons-eq e))
+not-both : (lead loop : List ℕ) → text "(finite" ++ lead ≡ text "(lasso (" ++ loop → ⊥
+not-both lead loop e = omega (arith, head-eq-of-cons-eq (tail-eq-of-cons-eq e))
 
 module _ (s l m l′ m′ : List ℕ) where
   pub finite-line : Stands (text "(finite") s 0 7 → (r : Lists) → ListsRead finiteRest s 7 l m l′ m′ r → ListsRead wholeLine s 0 l m l′ m′ r
@@ -162,7 +163,7 @@ module _ (s l m l′ m′ : List ℕ) where
 
       dec : {x : List ℕ} → Both wholeLine (text "(finite" ++ x) → Both finiteRest x
       dec (lead, [], e) = (lead, [], append-cancel-left (text "(finite") _ _ e)
-      dec {x} (lead, z ∷ loop, e) = absurd (not-both x [] _ e)
+      dec {x} (lead, z ∷ loop, e) = absurd (not-both x _ e)
 
   pub lasso-line : Stands (text "(lasso (") s 0 8 → (r : Lists) → ListsRead lassoRest s 8 l m l′ m′ r → ListsRead wholeLine s 0 l m l′ m′ r
   lasso-line o (Got a b large) (lead, [], e, x) = absurd e
@@ -174,7 +175,7 @@ module _ (s l m l′ m′ : List ℕ) where
       inc w (lead, z ∷ loop, e) = (lead, z ∷ loop, ap (λ (y : List ℕ). text "(lasso (" ++ y) e)
 
       dec : {x : List ℕ} → Both wholeLine (text "(lasso (" ++ x) → Both lassoRest x
-      dec {x} (lead, [], e) = absurd (not-both _ [] x (sym e))
+      dec {x} (lead, [], e) = absurd (not-both _ x (sym e))
       dec (lead, z ∷ loop, e) = (lead, z ∷ loop, append-cancel-left (text "(lasso (") _ _ e)
 
 module _ {s : List ℕ} {p q : ℕ} (a : Stops Finite s 0 p) (b : Stops Lasso s 0 q) where
@@ -203,8 +204,8 @@ module _ {s : List ℕ} {p q : ℕ} (a : Stops Finite s 0 p) (b : Stops Lasso s 
 pub trace-injective : (lead loop lead′ loop′ : List ℕ) → traceLine lead loop ≡ traceLine lead′ loop′ → (lead ≡ lead′) × (loop ≡ loop′)
 trace-injective lead [] lead′ [] e =
     (further-unique lead lead′ [] [] (ap (λ (x : List ℕ). x ++ []) (append-cancel-left (text "(finite") _ _ e)) .0, refl)
-trace-injective lead [] lead′ (y ∷ loop′) e = absurd (not-both _ [] _ e)
-trace-injective lead (x ∷ loop) lead′ [] e = absurd (not-both _ [] _ (sym e))
+trace-injective lead [] lead′ (y ∷ loop′) e = absurd (not-both _ _ e)
+trace-injective lead (x ∷ loop) lead′ [] e = absurd (not-both _ _ (sym e))
 trace-injective lead (x ∷ loop) lead′ (y ∷ loop′) e =
     let (p, d) = list-unique lead lead′ _ _ (append-cancel-left (text "(lasso (") _ _ e) in
     let (q, _) = list-unique (x ∷ loop) (y ∷ loop′) _ _ (append-cancel-left (text " (") _ _ d) in
@@ -212,10 +213,10 @@ trace-injective lead (x ∷ loop) lead′ (y ∷ loop′) e =
 
 -- ── The answer ──
 
-pub too-long : (s l m : List ℕ) → mostBytes < length s → TraceAnswer s l m (refused 17) l m
+pub too-long : (s l m : List ℕ) → mostBytes < length s → TraceAnswer s l m (Refused (refused 17)) l m
 too-long s l m h = record { long = λ _. (refl, refl, refl); stray = λ g z. absurd (omega arith); spelt = λ g a b e. absurd (omega arith) }
 
-pub no-trace : (s l m : List ℕ) {p : ℕ} → length s ≤ mostBytes → StopsLine (Both wholeLine) s 0 p → TraceAnswer s l m (refused 18) l m
+pub no-trace : (s l m : List ℕ) {p : ℕ} → length s ≤ mostBytes → StopsLine (Both wholeLine) s 0 p → TraceAnswer s l m (Refused (refused 18)) l m
 no-trace s l m {p} h a =
     record {
       long = λ g. absurd (omega arith);
@@ -244,30 +245,30 @@ or-right false y e = e
 -- The line spells lead and loop, of a and b letters; c to d′ are the lists of the reading without room.
 module _ {s : List ℕ} (l m lead loop : List ℕ) {a b : ℕ} {large : Bool} {c d c′ d′ : List ℕ} (h : length s ≤ mostBytes) (e : s ≡ traceLine lead loop)
     (x : ListsStand lead loop a b large c d c′ d′) where
-  pub large-letter : large ≡ true → TraceAnswer s l m (refused 21) l m
-  large-letter i = answers s l m l m (refused 21) lead loop h e (rw (sym (x .wide) ∙ i)) refl refl
+  pub large-letter : large ≡ true → TraceAnswer s l m (Refused (refused 21)) l m
+  large-letter i = answers s l m l m (Refused (refused 21)) lead loop h e (rw (sym (x .wide) ∙ i)) refl refl
 
   module _ (i : large ≡ false) where
     small : (largeLetter lead || largeLetter loop) ≡ false
     small = sym (x .wide) ∙ i
 
-    pub many-letters : 64 < a + b → TraceAnswer s l m (refused 22) l m
+    pub many-letters : 64 < a + b → TraceAnswer s l m (Refused (refused 22)) l m
     many-letters j =
-        answers s l m l m (refused 22) lead loop h e
+        answers s l m l m (Refused (refused 22)) lead loop h e
         (rw (small, lt-ltb 64 (length lead + length loop) (omega (arith, x .leads, x .loops)))) refl refl
 
     module _ (j : a + b ≤ 64) where
       few : ltb 64 (length lead + length loop) ≡ false
       few = le-ltb 64 (length lead + length loop) (omega (arith, x .leads, x .loops))
 
-      pub no-room-lead : length l < a → TraceAnswer s l m (refused 23) l m
+      pub no-room-lead : length l < a → TraceAnswer s l m (Refused (refused 23)) l m
       no-room-lead k =
-          answers s l m l m (refused 23) lead loop h e (rw (small, few, lt-ltb (length l) (length lead) (omega (arith, x .leads)))) refl refl
+          answers s l m l m (Refused (refused 23)) lead loop h e (rw (small, few, lt-ltb (length l) (length lead) (omega (arith, x .leads)))) refl refl
 
-      pub no-room-loop : length m < b → TraceAnswer s l m (refused 23) l m
+      pub no-room-loop : length m < b → TraceAnswer s l m (Refused (refused 23)) l m
       no-room-loop k =
           let short = lt-ltb (length m) (length loop) (omega (arith, x .loops)) in
-          answers s l m l m (refused 23) lead loop h e
+          answers s l m l m (Refused (refused 23)) lead loop h e
           (rw (small, few, or-right (ltb (length l) (length lead)) (ltb (length m) (length loop)) short)) refl refl
 
       pub letters-read : a ≤ length l → b ≤ length m → (l′ m′ : List ℕ) (r : Lists) → ListsRead wholeLine s 0 l m l′ m′ r

@@ -8,6 +8,7 @@ use lib.Seq.{sets}
 use lib.Dec.{leb, ltb}
 use Rattle.trace.specs.Letter.{signals, mostLetters}
 use Rattle.trace.specs.Moments.{size}
+use Rattle.table.specs.Answer.{refused}
 use Rattle.lines.specs.Spelling.{traceLine}
 use Rattle.lines.specs.Limits.{mostBytes}
 use Rattle.lines.specs.declared.traces.TraceLine.{TraceLine}
@@ -18,15 +19,12 @@ abbrev pub largeLetter : List ℕ → Bool
 largeLetter [] = false
 largeLetter (x ∷ xs) = leb (2 ^ signals) x || largeLetter xs
 
-abbrev pub refused : ℕ → TraceLine
-refused n = Refused (record { 0 = n })
-
 -- The answer to a line of the shape, by its lead-in and loop and the room of the two lent lists.
 abbrev pub traceAnswer : List ℕ → List ℕ → ℕ → ℕ → TraceLine
 traceAnswer lead loop room roomLoop =
-    cond (largeLetter lead || largeLetter loop) (refused 21)
-    (cond (ltb mostLetters (size lead loop)) (refused 22)
-    (cond (ltb room (length lead) || ltb roomLoop (length loop)) (refused 23)
+    cond (largeLetter lead || largeLetter loop) (Refused (refused 21))
+    (cond (ltb mostLetters (size lead loop)) (Refused (refused 22))
+    (cond (ltb room (length lead) || ltb roomLoop (length loop)) (Refused (refused 23))
     (Letters (length lead) (length loop))))
 
 -- A lent list l afterwards: the letters xs at its front, or as it was.
@@ -36,7 +34,7 @@ traceList (Refused e) xs l = l
 
 -- The answer r and the lists l′ and m′, for the line s and the lists l and m.
 pub record TraceAnswer (s l m : List ℕ) (r : TraceLine) (l′ m′ : List ℕ) : Type 0 where
-  pub long : mostBytes < length s → (r ≡ refused 17) × (l′ ≡ l) × (m′ ≡ m)
-  pub stray : length s ≤ mostBytes → ((lead loop : List ℕ) → s ≡ traceLine lead loop → ⊥) → (r ≡ refused 18) × (l′ ≡ l) × (m′ ≡ m)
+  pub long : mostBytes < length s → (r ≡ Refused (refused 17)) × (l′ ≡ l) × (m′ ≡ m)
+  pub stray : length s ≤ mostBytes → ((lead loop : List ℕ) → s ≡ traceLine lead loop → ⊥) → (r ≡ Refused (refused 18)) × (l′ ≡ l) × (m′ ≡ m)
   pub spelt : length s ≤ mostBytes → (lead loop : List ℕ) → s ≡ traceLine lead loop
       → (r ≡ traceAnswer lead loop (length l) (length m)) × (l′ ≡ traceList r lead l) × (m′ ≡ traceList r loop m)
