@@ -62,16 +62,21 @@ pub fn try_word(s: &[u8], at: usize, w: &[u8], kind: u16, others: Word) -> Word
     }
 }
 
-// The word of a form of a sort, 0 for Booleans.
-pub fn keyword(s: &[u8], at: usize, sort: u16) -> Word
+// The word of a Boolean, the last tried first.
+pub fn boolean_word(s: &[u8], at: usize) -> Word
     requires { ⌜ at ≤ length (now s) ⌝ }
-    ensures { λ r. ⌜ KeywordRead (kinds sort) (now (s .entry)) at r ⌝ }
+    ensures { λ r. ⌜ KeywordRead (kinds 0) (now (s .entry)) at r ⌝ }
 {
-    if sort == 0 {
-        let c = try_word(s, at, b"band ", 3, Word::No(at));
-        let b = try_word(s, at, b"bnot ", 2, c);
-        return try_word(s, at, b"var ", 1, b);
-    }
+    let c = try_word(s, at, b"band ", 3, Word::No(at));
+    let b = try_word(s, at, b"bnot ", 2, c);
+    try_word(s, at, b"var ", 1, b)
+}
+
+// The word of a formula, the last tried first.
+pub fn formula_word(s: &[u8], at: usize) -> Word
+    requires { ⌜ at ≤ length (now s) ⌝ }
+    ensures { λ r. ⌜ KeywordRead (kinds 1) (now (s .entry)) at r ⌝ }
+{
     let g = try_word(s, at, b"abort ", 10, Word::No(at));
     let f = try_word(s, at, b"until ", 9, g);
     let e = try_word(s, at, b"next ", 8, f);
@@ -79,6 +84,17 @@ pub fn keyword(s: &[u8], at: usize, sort: u16) -> Word
     let c = try_word(s, at, b"not ", 6, d);
     let b = try_word(s, at, b"strong ", 5, c);
     try_word(s, at, b"weak ", 4, b)
+}
+
+// The word of a form of a sort.
+pub fn keyword(s: &[u8], at: usize, sort: u16) -> Word
+    requires { ⌜ at ≤ length (now s) ⌝ }
+    ensures { λ r. ⌜ KeywordRead (kinds sort) (now (s .entry)) at r ⌝ }
+{
+    if sort == 0 {
+        return boolean_word(s, at);
+    }
+    formula_word(s, at)
 }
 
 // How many forms a kind takes, and the sorts of the left and of the right one.

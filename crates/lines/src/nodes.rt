@@ -7,7 +7,11 @@ use trace::Refusal;
 ghost use mathlib.Core.Path.{_≡_};
 ghost use Prim.Native.Nat.{_+_, _<_, _≤_};
 ghost use lib.ListN.{length, set};
+ghost use mathlib.Core.Bool.{false};
 ghost use Rattle.table.specs.Node.{node};
+ghost use Rattle.table.specs.Answer.{checked};
+ghost use Rattle.table.specs.Check.{nodeRefusal};
+ghost use Rattle.ltl.specs.Check.{ltlRules};
 ghost use Rattle.lines.specs.Spelling.{digits, ltlWord, ltlPlaces, nodeLine};
 ghost use Rattle.lines.specs.NodeAnswer.{nodeAnswer, nodeList};
 ghost use Rattle.lines.specs.Writer.{Wrote, spaced};
@@ -110,6 +114,13 @@ pub enum NodeLine {
     Refused(Refusal),
 }
 
+// What the LTL check says of a node.
+fn check_alone(no: NodeNo, kind: u16, left: u16, right: u16) -> Checked
+    ensures { λ x. ⌜ x ≡ checked (nodeRefusal ltlRules (no .0) (node kind left right) false false) ⌝ }
+{
+    check_node(LTL, no, kind, left, right, false, false)
+}
+
 // A node's line into the lent bytes. It is written twice: first with no room, for its length.
 pub fn write_node(no: NodeNo, kind: u16, left: u16, right: u16, out: &mut [u8]) -> NodeLine
     ensures { λ x. ⌜ x ≡ nodeAnswer (no .0) (node kind left right) (length (now (out .entry))) ⌝ }
@@ -119,7 +130,7 @@ pub fn write_node(no: NodeNo, kind: u16, left: u16, right: u16, out: &mut [u8]) 
     if MOST_NODES <= own {
         return NodeLine::Refused(Refusal(11));
     }
-    match check_node(LTL, no, kind, left, right, false, false) {
+    match check_alone(no, kind, left, right) {
         Checked::Refused(x) => NodeLine::Refused(x),
         Checked::Accepted => {
             let mut none = [0u8; 1];

@@ -11,8 +11,8 @@ returns c =
     let x = start .args in
     own-large (x .no .0) (x .kind) (x .left) (x .right) (x .out .now) (c .if1 .taken)
 
-check-node-requires : tie.Need-check-node-requires
-check-node-requires c κs = search needs
+check-alone-requires : tie.Need-check-alone-requires
+check-alone-requires c κs = search needs
 
 enum-known-x : tie.Need-enum-known-x
 enum-known-x c = search needs
@@ -27,38 +27,38 @@ put-line-requires : tie.Need-put-line-requires
 put-line-requires c κs =
     let start = c .before .before .before .before .before .before in
     let at-if1 = c .before .before .before .before in
-    let at-check-node = c .before .before .before in
+    let at-check-alone = c .before .before .before in
     let at-enum-told = c .before in
     let x = start .args in
-    known-kind (x .no .0) (x .kind) (x .left) (x .right) (x .out .now) (omega (arith, at-if1 .if1 .left)) (at-check-node .check-node .result) (at-check-node .check-node .ensures) (at-enum-told .enum-told .given .1)
+    known-kind (x .no .0) (x .kind) (x .left) (x .right) (x .out .now) (omega (arith, at-if1 .if1 .left)) (at-check-alone .check-alone .result) (at-check-alone .check-alone .ensures) (at-enum-told .enum-told .given .1)
 
 returns-2 : tie.Need-returns-2
 returns-2 c =
     let start = c .before .before .before .before .before .before .before .before .before in
     let at-if1 = c .before .before .before .before .before .before .before in
-    let at-check-node = c .before .before .before .before .before .before in
+    let at-check-alone = c .before .before .before .before .before .before in
     let at-enum-told = c .before .before .before .before in
     let at-put-line = c .before .before in
     let x = start .args in
-    no-room (x .no .0) (x .kind) (x .left) (x .right) (x .out .now) (omega (arith, at-if1 .if1 .left)) (at-check-node .check-node .result) (at-check-node .check-node .ensures) (at-enum-told .enum-told .given .1) (at-put-line .put-line .result) (at-put-line .put-line .ensures) (c .if2 .taken)
+    no-room (x .no .0) (x .kind) (x .left) (x .right) (x .out .now) (omega (arith, at-if1 .if1 .left)) (at-check-alone .check-alone .result) (at-check-alone .check-alone .ensures) (at-enum-told .enum-told .given .1) (at-put-line .put-line .result) (at-put-line .put-line .ensures) (c .if2 .taken)
 
 put-line-requires-2 : tie.Need-put-line-requires-2
 put-line-requires-2 c κs =
     let start = c .before .before .before .before .before .before .before .before .before .before in
     let at-if1 = c .before .before .before .before .before .before .before .before in
-    let at-check-node = c .before .before .before .before .before .before .before in
+    let at-check-alone = c .before .before .before .before .before .before .before in
     let at-enum-told = c .before .before .before .before .before in
     let x = start .args in
-    known-kind (x .no .0) (x .kind) (x .left) (x .right) (x .out .now) (omega (arith, at-if1 .if1 .left)) (at-check-node .check-node .result) (at-check-node .check-node .ensures) (at-enum-told .enum-told .given .1)
+    known-kind (x .no .0) (x .kind) (x .left) (x .right) (x .out .now) (omega (arith, at-if1 .if1 .left)) (at-check-alone .check-alone .result) (at-check-alone .check-alone .ensures) (at-enum-told .enum-told .given .1)
 
 returns-3 : tie.Need-returns-3
 returns-3 c =
     let start = c .before .before .before .before .before .before in
     let at-if1 = c .before .before .before .before in
-    let at-check-node = c .before .before .before in
+    let at-check-alone = c .before .before .before in
     let at-x = c .before in
     let x = start .args in
-    faulty (x .no .0) (x .kind) (x .left) (x .right) (x .out .now) (omega (arith, at-if1 .if1 .left)) (at-check-node .check-node .result) (at-check-node .check-node .ensures) (at-x .x .given .0 .0) (at-x .x .given .1)
+    faulty (x .no .0) (x .kind) (x .left) (x .right) (x .out .now) (omega (arith, at-if1 .if1 .left)) (at-check-alone .check-alone .result) (at-check-alone .check-alone .ensures) (at-x .x .given .0 .0) (at-x .x .given .1)
 
 same-length : tie.Need-same-length
 same-length c = search needs
@@ -67,20 +67,20 @@ returns-4 : tie.Need-returns-4
 returns-4 c =
     let start = c .before .before .before .before .before .before .before .before .before .before .before .before .before in
     let at-if1 = c .before .before .before .before .before .before .before .before .before .before .before in
-    let at-check-node = c .before .before .before .before .before .before .before .before .before .before in
+    let at-check-alone = c .before .before .before .before .before .before .before .before .before .before in
     let at-enum-told = c .before .before .before .before .before .before .before .before in
     let at-put-line = c .before .before .before .before .before .before in
     let at-if2 = c .before .before .before .before in
     let at-put-line2 = c .before .before in
     let x = start .args in
-    line-written (x .no .0) (x .kind) (x .left) (x .right) (x .out .now) (omega (arith, at-if1 .if1 .left)) (at-check-node .check-node .result) (at-check-node .check-node .ensures) (at-enum-told .enum-told .given .1) (at-put-line .put-line .result) (at-put-line .put-line .ensures) (omega (arith, at-if2 .if2 .left)) (at-put-line2 .put-line2 .ensures)
+    line-written (x .no .0) (x .kind) (x .left) (x .right) (x .out .now) (omega (arith, at-if1 .if1 .left)) (at-check-alone .check-alone .result) (at-check-alone .check-alone .ensures) (at-enum-told .enum-told .given .1) (at-put-line .put-line .result) (at-put-line .put-line .ensures) (omega (arith, at-if2 .if2 .left)) (at-put-line2 .put-line2 .ensures)
 
 pub write-node-spec : {M : Type 1} → statement M
 write-node-spec =
     tie.close
     (tie.spec
     returns
-    check-node-requires
+    check-alone-requires
     enum-known-x
     enum-told
     slice-aggregate-put-line
