@@ -1,0 +1,19 @@
+-- The array is the table.
+use borrow.Author.Needs.{needs}
+use mathlib.Core.Path.{refl}
+use Rattle.lines.specs.Spelling.{ltlPlaces}
+use Rattle.lines.proofs.nodes.places.Statement.{statement}
+use Rattle.lines.proofs.nodes.places.Tie as tie
+
+mul-result : tie.Need-mul-result
+mul-result c = search needs
+
+array-read-result : tie.Need-array-read-result
+array-read-result c = search needs
+
+returns : tie.Need-returns
+unfolding ltlPlaces
+returns c = refl
+
+pub places-spec : {M : Type 1} → statement M
+places-spec = tie.close (tie.spec mul-result array-read-result returns)

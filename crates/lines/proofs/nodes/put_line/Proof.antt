@@ -1,0 +1,104 @@
+-- The parts, one after the other.
+use borrow.Author.Needs.{needs}
+use native.Mathlib.Omega.{arith}
+use mathlib.Core.Path.{subst}
+use Prim.Native.Nat.{ℕ}
+use Rattle.lines.specs.Writer.{Wrote, spaced}
+use Rattle.lines.proofs.WriterLaw.{number-end, word-end, numbers-end, line-wrote}
+use Rattle.lines.proofs.nodes.put_line.Statement.{statement}
+use Rattle.lines.proofs.nodes.put_line.Tie as tie
+
+slice-aggregate-put-text : tie.Need-slice-aggregate-put-text
+slice-aggregate-put-text c = search needs
+
+put-text-requires : tie.Need-put-text-requires
+put-text-requires c κs = search needs
+
+put-number-requires : tie.Need-put-number-requires
+put-number-requires c κs =
+    let at-put-text = c .before .before .before in
+    omega (arith, at-put-text .put-text .ensures .ends)
+
+slice-aggregate-put-text-2 : tie.Need-slice-aggregate-put-text-2
+slice-aggregate-put-text-2 c = search needs
+
+put-text-requires-2 : tie.Need-put-text-requires-2
+put-text-requires-2 c κs =
+    let at-put-text = c .before .before .before .before .before .before .before .before in
+    let at-put-number = c .before .before .before .before in
+    omega (arith, at-put-text .put-text .ensures .ends, number-end (omega arith) (at-put-number .put-number .ensures))
+
+put-word-requires : tie.Need-put-word-requires
+put-word-requires c κs =
+    let at-put-text = c .before .before .before .before .before .before .before .before .before .before .before .before in
+    let at-put-number = c .before .before .before .before .before .before .before .before in
+    let at-put-text2 = c .before .before .before in
+    let start = c .before .before .before .before .before .before .before .before .before .before .before .before .before .before .before .before in
+    (omega (arith, at-put-text .put-text .ensures .ends, number-end (omega arith) (at-put-number .put-number .ensures), at-put-text2 .put-text2 .ensures .ends), start .pre)
+
+places-requires : tie.Need-places-requires
+places-requires c κs = search needs
+
+put-numbers-requires : tie.Need-put-numbers-requires
+put-numbers-requires c κs =
+    let at-put-text = c .before .before .before .before .before .before .before .before .before .before .before .before .before .before .before .before .before in
+    let at-put-number = c .before .before .before .before .before .before .before .before .before .before .before .before .before in
+    let at-put-text2 = c .before .before .before .before .before .before .before .before in
+    let start = c .before .before .before .before .before .before .before .before .before .before .before .before .before .before .before .before .before .before .before .before .before in
+    let at-put-word = c .before .before .before .before in
+    omega (arith, at-put-text .put-text .ensures .ends, number-end (omega arith) (at-put-number .put-number .ensures), at-put-text2 .put-text2 .ensures .ends, word-end (start .pre) (at-put-word .put-word .ensures))
+
+slice-aggregate-put-text-3 : tie.Need-slice-aggregate-put-text-3
+slice-aggregate-put-text-3 c = search needs
+
+put-text-requires-3 : tie.Need-put-text-requires-3
+put-text-requires-3 c κs =
+    let at-put-text = c .before .before .before .before .before .before .before .before .before .before .before .before .before .before .before .before .before .before .before .before .before .before in
+    let at-put-number = c .before .before .before .before .before .before .before .before .before .before .before .before .before .before .before .before .before .before in
+    let at-put-text2 = c .before .before .before .before .before .before .before .before .before .before .before .before .before in
+    let start = c .before .before .before .before .before .before .before .before .before .before .before .before .before .before .before .before .before .before .before .before .before .before .before .before .before .before in
+    let at-put-word = c .before .before .before .before .before .before .before .before .before in
+    let at-places = c .before .before .before .before .before in
+    let at-put-numbers = c .before .before .before .before in
+    omega (
+      arith,
+      at-put-text .put-text .ensures .ends,
+      number-end (omega arith) (at-put-number .put-number .ensures),
+      at-put-text2 .put-text2 .ensures .ends,
+      word-end (start .pre) (at-put-word .put-word .ensures),
+      numbers-end (at-places .places .result) (start .args .left) (start .args .right) (omega arith) (omega arith) (at-put-numbers .put-numbers .ensures),
+    )
+
+same-length : tie.Need-same-length
+same-length c = search needs
+
+returns : tie.Need-returns
+returns c =
+    let start = c .before .before .before .before .before .before .before .before .before .before .before .before .before .before .before .before .before .before .before .before .before .before .before .before .before .before .before .before .before in
+    let at-put-word = c .before .before .before .before .before .before .before .before .before .before .before .before in
+    let at-put-numbers = c .before .before .before .before .before .before .before in
+    let at-places = c .before .before .before .before .before .before .before .before in
+    let at-put-text = c .before .before .before .before .before .before .before .before .before .before .before .before .before .before .before .before .before .before .before .before .before .before .before .before .before in
+    let at-put-number = c .before .before .before .before .before .before .before .before .before .before .before .before .before .before .before .before .before .before .before .before .before in
+    let at-put-text2 = c .before .before .before .before .before .before .before .before .before .before .before .before .before .before .before .before in
+    let at-put-text3 = c .before .before in
+    let x = start .args in
+    let numbers = subst (λ (n : ℕ). Wrote (spaced n (x .left) (x .right)) (at-put-word .put-word .last .0) (at-put-numbers .put-numbers .last .0) (at-put-word .put-word .result) (at-put-numbers .put-numbers .result)) (at-places .places .ensures) (at-put-numbers .put-numbers .ensures) in
+    line-wrote (x .own) (x .kind) (x .left) (x .right) (at-put-text .put-text .ensures) (at-put-number .put-number .ensures) (at-put-text2 .put-text2 .ensures) (at-put-word .put-word .ensures) numbers (at-put-text3 .put-text3 .ensures)
+
+pub put-line-spec : {M : Type 1} → statement M
+put-line-spec =
+    tie.close
+    (tie.spec
+    slice-aggregate-put-text
+    put-text-requires
+    put-number-requires
+    slice-aggregate-put-text-2
+    put-text-requires-2
+    put-word-requires
+    places-requires
+    put-numbers-requires
+    slice-aggregate-put-text-3
+    put-text-requires-3
+    same-length
+    returns)

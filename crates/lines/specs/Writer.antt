@@ -1,0 +1,19 @@
+-- What the inner writers promise.
+use mathlib.Core.Path.{_≡_}
+use mathlib.Core.List.{List, [], _∷_, _++_}
+use Prim.Native.Nat.{ℕ, zero, suc, _+_}
+use lib.ListN.{length}
+use lib.Seq.{sets}
+use Rattle.lines.specs.Text.{text}
+use Rattle.lines.specs.Spelling.{digits}
+
+-- The list l became m by the bytes w from place `at` up to `next`; past its end nothing is stored.
+pub record Wrote (w l m : List ℕ) (at next : ℕ) : Type 0 where
+  pub is : m ≡ sets l at w
+  pub ends : next ≡ at + length w
+
+-- The first n of two numbers, a space before each.
+abbrev pub spaced : ℕ → ℕ → ℕ → List ℕ
+spaced zero p q = []
+spaced (suc zero) p q = text " " ++ digits p
+spaced (suc (suc n)) p q = text " " ++ (digits p ++ (text " " ++ digits q))

@@ -1,0 +1,5 @@
+// Lines of text: formula and trace lines in, node lines out.
+pub mod formula;
+pub mod nodes;
+mod scan;
+pub mod traces;

@@ -1,0 +1,145 @@
+// Node lines: `(I kind)`, `(I kind P)` or `(I kind P Q)`, and byte 10.
+use ltl::LTL;
+use table::Checked;
+use table::NodeNo;
+use table::check_node;
+use trace::Refusal;
+ghost use mathlib.Core.Path.{_≡_};
+ghost use Prim.Native.Nat.{_+_, _<_, _≤_};
+ghost use lib.ListN.{length, set};
+ghost use mathlib.Core.Bool.{false};
+ghost use Rattle.table.specs.Node.{node};
+ghost use Rattle.table.specs.Answer.{checked};
+ghost use Rattle.table.specs.Check.{nodeRefusal};
+ghost use Rattle.ltl.specs.Check.{ltlRules};
+ghost use Rattle.lines.specs.Spelling.{digits, ltlWord, ltlPlaces, nodeLine};
+ghost use Rattle.lines.specs.NodeAnswer.{nodeAnswer, nodeList};
+ghost use Rattle.lines.specs.Writer.{Wrote, spaced};
+
+// The most nodes of an LTL table.
+const MOST_NODES: u16 = 4096;
+
+// A byte at a place, nothing past the end.
+pub fn put_byte(out: &mut [u8], at: usize, b: u8)
+    ensures { λ _. ⌜ now (out .exit) ≡ set (now (out .entry)) at b ⌝ }
+{
+    if at < out.len() {
+        out[at] = b;
+    }
+}
+
+// Bytes from a place on; the place after them.
+pub fn put_text(out: &mut [u8], at: usize, w: &[u8]) -> usize
+    requires { ⌜ at + length (now w) ≤ 1000000 ⌝ }
+    ensures { λ r. ⌜ Wrote (now (w .entry)) (now (out .entry)) (now (out .exit)) at r ⌝ }
+{
+    let mut i: usize = 0;
+    while i < w.len() {
+        put_byte(out, at + i, w[i]);
+        i += 1;
+    }
+    at + i
+}
+
+// A number in decimal.
+pub fn put_number(out: &mut [u8], at: usize, n: u16) -> usize
+    requires { ⌜ at ≤ 900000 ⌝ }
+    ensures { λ r. ⌜ Wrote (digits n) (now (out .entry)) (now (out .exit)) at r ⌝ }
+{
+    if n < 10 {
+        put_byte(out, at, (48 + n) as u8);
+        return at + 1;
+    }
+    let p = put_number(out, at, n / 10);
+    put_byte(out, p, (48 + n % 10) as u8);
+    p + 1
+}
+
+// The word of a kind.
+pub fn put_word(out: &mut [u8], at: usize, kind: u16) -> usize
+    requires { ⌜ (at ≤ 900000) × (kind < 7) ⌝ }
+    ensures { λ r. ⌜ Wrote (ltlWord kind) (now (out .entry)) (now (out .exit)) at r ⌝ }
+{
+    match kind {
+        0 => put_text(out, at, b"true"),
+        1 => put_text(out, at, b"var"),
+        2 => put_text(out, at, b"not"),
+        3 => put_text(out, at, b"and"),
+        4 => put_text(out, at, b"or"),
+        5 => put_text(out, at, b"next"),
+        _ => put_text(out, at, b"until"),
+    }
+}
+
+// How many of its two places a kind uses.
+pub fn places(kind: u16) -> u16
+    requires { ⌜ kind < 7 ⌝ }
+    ensures { λ r. ⌜ r ≡ ltlPlaces kind ⌝ }
+{
+    [0u16, 1, 1, 2, 2, 1, 2][kind as usize]
+}
+
+// The first n of two numbers, a space before each.
+pub fn put_numbers(out: &mut [u8], at: usize, n: u16, p: u16, q: u16) -> usize
+    requires { ⌜ at ≤ 500000 ⌝ }
+    ensures { λ r. ⌜ Wrote (spaced n p q) (now (out .entry)) (now (out .exit)) at r ⌝ }
+{
+    if n == 0 {
+        return at;
+    }
+    let a = put_text(out, at, b" ");
+    let b = put_number(out, a, p);
+    if n == 1 {
+        return b;
+    }
+    let c = put_text(out, b, b" ");
+    put_number(out, c, q)
+}
+
+// A node's line; how many bytes it has.
+pub fn put_line(out: &mut [u8], own: u16, kind: u16, left: u16, right: u16) -> usize
+    requires { ⌜ kind < 7 ⌝ }
+    ensures { λ r. ⌜ Wrote (nodeLine own (node kind left right)) (now (out .entry)) (now (out .exit)) 0 r ⌝ }
+{
+    let a = put_text(out, 0, b"(");
+    let b = put_number(out, a, own);
+    let c = put_text(out, b, b" ");
+    let d = put_word(out, c, kind);
+    let e = put_numbers(out, d, places(kind), left, right);
+    put_text(out, e, b")\n")
+}
+
+pub enum NodeLine {
+    Bytes(usize),
+    Refused(Refusal),
+}
+
+// What the LTL check says of a node.
+fn check_alone(no: NodeNo, kind: u16, left: u16, right: u16) -> Checked
+    ensures { λ x. ⌜ x ≡ checked (nodeRefusal ltlRules (no .0) (node kind left right) false false) ⌝ }
+{
+    check_node(LTL, no, kind, left, right, false, false)
+}
+
+// A node's line into the lent bytes. It is written twice: first with no room, for its length.
+pub fn write_node(no: NodeNo, kind: u16, left: u16, right: u16, out: &mut [u8]) -> NodeLine
+    ensures { λ x. ⌜ x ≡ nodeAnswer (no .0) (node kind left right) (length (now (out .entry))) ⌝ }
+    ensures { λ x. ⌜ now (out .exit) ≡ nodeList x (nodeLine (no .0) (node kind left right)) (now (out .entry)) ⌝ }
+{
+    let own = no.0;
+    if MOST_NODES <= own {
+        return NodeLine::Refused(Refusal(11));
+    }
+    match check_alone(no, kind, left, right) {
+        Checked::Refused(x) => NodeLine::Refused(x),
+        Checked::Accepted => {
+            let mut none = [0u8; 1];
+            let n = put_line(&mut none, own, kind, left, right);
+            if out.len() < n {
+                return NodeLine::Refused(Refusal(24));
+            }
+            put_line(out, own, kind, left, right);
+            NodeLine::Bytes(n)
+        }
+    }
+}
