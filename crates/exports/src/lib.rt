@@ -1,17 +1,31 @@
 // The boundary for tests in Rust: each operation with its answer as one number.
 ghost use mathlib.Core.Path.{_≡_};
-ghost use Prim.Native.Nat.{ℕ, _≤_};
-ghost use Rattle.trace.specs.Moments.{letterAt, found};
+ghost use mathlib.Core.Option.{none};
+ghost use Prim.Native.Nat.{_≤_};
+ghost use lib.ListN.{length};
+ghost use Rattle.trace.specs.Letter.{mostLetters};
+ghost use Rattle.rows.specs.Rows.{Few};
+ghost use Rattle.trace.specs.Moments.{letterAt, size, found};
 ghost use Rattle.table.specs.Answer.{checked};
 ghost use Rattle.psl.specs.Check.{pslRefusal};
 ghost use Rattle.ltl.specs.Check.{ltlRefusal};
 ghost use Rattle.translate.specs.declared.Translation.{Translation};
-ghost use Rattle.translate.specs.declared.Translation.the-variants.{Nodes};
 ghost use Rattle.translate.specs.Answer.{Delivers};
 ghost use Rattle.verdict.specs.declared.Verdict.{Verdict};
 ghost use Rattle.verdict.specs.Verdict.{PslJudges, LtlJudges};
-ghost use Rattle.exports.specs.Coded.{foundCode, checkedCode, translationCode, verdictCode};
+ghost use Rattle.table.specs.Node.{node};
+ghost use Rattle.lines.specs.declared.formula.Line.{Line};
+ghost use Rattle.lines.specs.declared.traces.TraceLine.{TraceLine};
+ghost use Rattle.lines.specs.Spelling.{nodeLine};
+ghost use Rattle.lines.specs.FormulaAnswer.{FormulaAnswer};
+ghost use Rattle.lines.specs.TraceAnswer.{TraceAnswer};
+ghost use Rattle.lines.specs.NodeAnswer.{nodeAnswer, nodeList};
+ghost use Rattle.exports.specs.Coded.{foundCode, checkedCode, translationCode, verdictCode, formulaCode, traceCode, nodeCode};
+use lines::formula::Line;
+use lines::nodes::NodeLine;
+use lines::traces::TraceLine;
 use table::Checked;
+use table::NodeNo;
 use trace::Found;
 use trace::Letter;
 use trace::Moment;
@@ -96,11 +110,10 @@ pub extern "C" fn brancadol_ltl_verdict(table: &[u16], lead: &[Letter], cycle: &
 }
 
 fn translation_code(a: Translation) -> u64
-    requires { ⌜ ((s : ℕ) → a ≡ Nodes s → s ≤ 4094) ⌝ }
     ensures { λ r. ⌜ r ≡ translationCode a ⌝ }
 {
     match a {
-        Translation::Nodes(s) => 256 + (s as u64),
+        Translation::Nodes(s) => 256 + (s as u64) % 65536,
         Translation::Refused(x) => x.0 as u64,
     }
 }
@@ -110,4 +123,80 @@ pub extern "C" fn brancadol_translate(table: &[u16], out: &mut [u16]) -> u64
     ensures { λ r. ⌜ ((a : Translation) × Delivers (now (table .entry)) (now (out .entry)) a (now (out .exit)) × (r ≡ translationCode a)) ⌝ }
 {
     translation_code(translate::translate(table, out))
+}
+
+fn formula_code(a: Line) -> u64
+    ensures { λ r. ⌜ r ≡ formulaCode a ⌝ }
+{
+    match a {
+        Line::Nodes(n) => 256 + (n as u64) % 65536,
+        Line::Refused(x) => x.0 as u64,
+    }
+}
+
+#[no_mangle]
+pub extern "C" fn brancadol_read_formula(line: &[u8], out: &mut [u16]) -> u64
+    ensures { λ r. ⌜ ((a : Line) × FormulaAnswer (now (line .entry)) (now (out .entry)) a (now (out .exit)) × (r ≡ formulaCode a)) ⌝ }
+{
+    formula_code(lines::formula::read_formula(line, out))
+}
+
+fn trace_code(a: TraceLine) -> u64
+    ensures { λ r. ⌜ r ≡ traceCode a ⌝ }
+{
+    match a {
+        TraceLine::Letters { lead, cycle } => 256
+            + 65536 * ((lead as u64) % 65536)
+            + (cycle as u64) % 65536,
+        TraceLine::Refused(x) => x.0 as u64,
+    }
+}
+
+#[no_mangle]
+pub extern "C" fn brancadol_read_trace(
+    line: &[u8],
+    lead: &mut [Letter],
+    cycle: &mut [Letter],
+) -> u64
+    ensures { λ r. ⌜ ((a : TraceLine) × TraceAnswer (now (line .entry)) (now (lead .entry)) (now (cycle .entry)) a (now (lead .exit)) (now (cycle .exit)) × (r ≡ traceCode a)) ⌝ }
+{
+    trace_code(lines::traces::read_trace(line, lead, cycle))
+}
+
+fn node_code(a: NodeLine) -> u64
+    ensures { λ r. ⌜ r ≡ nodeCode a ⌝ }
+{
+    match a {
+        NodeLine::Bytes(n) => 256 + (n as u64) % 65536,
+        NodeLine::Refused(x) => x.0 as u64,
+    }
+}
+
+#[no_mangle]
+pub extern "C" fn brancadol_write_node(
+    own: u16,
+    kind: u16,
+    left: u16,
+    right: u16,
+    out: &mut [u8],
+) -> u64
+    ensures { λ r. ⌜ (r ≡ nodeCode (nodeAnswer own (node kind left right) (length (now (out .entry))))) × (now (out .exit) ≡ nodeList (nodeAnswer own (node kind left right) (length (now (out .entry)))) (nodeLine own (node kind left right)) (now (out .entry))) ⌝ }
+{
+    node_code(lines::nodes::write_node(NodeNo(own), kind, left, right, out))
+}
+
+// Below the check, for measuring: the caller lends accepted tables and at most 64 letters.
+#[no_mangle]
+pub extern "C" fn brancadol_psl_holds(table: &[u16], lead: &[Letter], cycle: &[Letter]) -> u64
+    requires { ⌜ (pslRefusal (now table) ≡ none) × (size (now lead) (now cycle) ≤ mostLetters) ⌝ }
+{
+    verdict::psl_holds(table, lead, cycle) as u64
+}
+
+// The same for an LTL table, with at least one letter.
+#[no_mangle]
+pub extern "C" fn brancadol_ltl_holds(table: &[u16], lead: &[Letter], cycle: &[Letter]) -> u64
+    requires { ⌜ (ltlRefusal (now table) ≡ none) × Few (now lead) (now cycle) ⌝ }
+{
+    verdict::ltl_holds(table, lead, cycle) as u64
 }

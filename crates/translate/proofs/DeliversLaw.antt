@@ -11,8 +11,7 @@ use borrow.Author.Tests.{le-leb, lt-leb}
 use Rattle.trace.specs.declared.Refusal.{Refusal}
 use Rattle.table.specs.Answer.{refused}
 use Rattle.table.specs.Node.{Node, node, _▸_, count, kindAt}
-use Rattle.table.specs.Check.{unless, total}
-use Rattle.table.proofs.CheckLaw.{or-none}
+use Rattle.table.specs.Check.{total}
 use Rattle.psl.specs.Formula.{Formula, weigh}
 use Rattle.psl.specs.Table.{formulaOf}
 use Rattle.psl.specs.Check.{pslRefusal}
@@ -119,15 +118,3 @@ module _ (t l : List ℕ) where
             let y : take (3 * k) m ≡ emitted f = ap (take (3 * k)) c ∙ take-at (emitted f) (drop (length (emitted f)) l) (3 * k) (omega (arith, length-emitted f)) in
             subst (Translates f) (sym y) (translates f);
       }
-
--- The answer is never large.
-pub delivers-low : {t l m : List ℕ} {r : Translation} → Delivers t l r m → (s : ℕ) → r ≡ Nodes s → s ≤ 4094
-unfolding translateRefusal
-delivers-low {t} {l} {m} {r} d s q = go (translateRefusal t (length l)) refl (sym q ∙ d .answers)
-  where
-    go : (o : Option Refusal) → translateRefusal t (length l) ≡ o → Nodes s ≡ answer o (emittedSize (formulaOf t)) → s ≤ 4094
-    go none e z =
-        let p = or-none (pslRefusal t) (unless (leb (3 * emittedSize (formulaOf t)) (length l)) (refused 10) none) e in
-        let i : s ≡ emittedSize (formulaOf t) = cc in
-        omega (arith, size-most t (p .0))
-    go (some x) e z = absurd (let i : _≡_ {A = ℕ} 0 1 = cc in omega arith)
