@@ -11,7 +11,7 @@ use Rattle.psl.specs.Table.{Part, boolean, formula, asBoolean, asFormula, partO
 use Rattle.lines.specs.Text.{text}
 use Rattle.lines.specs.Spelling.{brackets, digits, spellB, spell, formulaLine}
 use Rattle.lines.specs.Closing.{nodesB, nodes}
-use Rattle.lines.specs.Form.{Form, truth, signal, one, two, word, shape, arity, leftSort, rightSort, kinds, elem, Sorted, bytes, closed}
+use Rattle.lines.specs.Inner.Form.{Form, truth, signal, one, two, word, shape, arity, leftSort, rightSort, kinds, elem, Sorted, bytes, closed}
 use Rattle.lines.proofs.FormLaw.{boolean-kinds, formula-kinds, form-unique}
 
 abbrev pub boolForm : BoolExpr → Form

@@ -12,11 +12,11 @@ use lib.Dec.{leb}
 use Rattle.trace.specs.Letter.{signals}
 use Rattle.lines.specs.Text.{text}
 use Rattle.lines.specs.Spelling.{digits, ending, inside}
-use Rattle.lines.specs.Places.{byteAt, Stands, Agree, Language, Begins, Halts, Stops, StopsLine}
-use Rattle.lines.specs.Number.{NoDigit, Numeral, Numbered}
-use Rattle.lines.specs.Scan.{NumberStands}
+use Rattle.lines.specs.Inner.Places.{byteAt, Stands, Agree, Language, Begins, Halts, Stops, StopsLine}
+use Rattle.lines.specs.Inner.Number.{NoDigit, Numeral, Numbered}
+use Rattle.lines.specs.Inner.Scan.{NumberStands}
 use Rattle.lines.specs.TraceAnswer.{largeLetter}
-use Rattle.lines.specs.LettersReader.{LetterStands, further, listed, Any, Some, Spelled, LettersStand, LettersRead}
+use Rattle.lines.specs.Inner.LettersReader.{LetterStands, further, listed, Any, Some, Spelled, LettersStand, LettersRead}
 use Rattle.lines.specs.declared.traces.Letters.{Letters}
 use Rattle.lines.specs.declared.traces.Letters.the-variants.{Got, No}
 use Rattle.lines.proofs.PlaceLaw.{agree-byte, byte-drop, stands-one, stands-join, stops-here, halts-first, halts-after}

@@ -17,9 +17,9 @@ use Rattle.lines.specs.Spelling.{spell, formulaLine}
 use Rattle.lines.specs.Closing.{table}
 use Rattle.lines.specs.Limits.{mostBytes}
 use Rattle.lines.specs.FormulaAnswer.{largeSignal, formulaAnswer, formulaList, FormulaAnswer}
-use Rattle.lines.specs.Places.{byteAt, Stands, Agree, Begins, Stops, StopsLine}
-use Rattle.lines.specs.Form.{Form, truth, signal, one, two, arity, Sorted, bytes, closed, wide}
-use Rattle.lines.specs.Reader.{FormOf, filled, FormStands, FormulaLine, WholeStands, WholeRead}
+use Rattle.lines.specs.Inner.Places.{byteAt, Stands, Agree, Begins, Stops, StopsLine}
+use Rattle.lines.specs.Inner.Form.{Form, truth, signal, one, two, arity, Sorted, bytes, closed, wide}
+use Rattle.lines.specs.Inner.Reader.{FormOf, filled, FormStands, FormulaLine, WholeStands, WholeRead}
 use Rattle.lines.specs.declared.formula.Line.{Line}
 use Rattle.lines.specs.declared.formula.Line.the-variants.{Nodes, Refused}
 use Rattle.lines.specs.declared.formula.Read.{Read}

@@ -21,8 +21,8 @@ use Rattle.ltl.specs.Check.{ltlRules}
 use Rattle.lines.specs.Text.{text}
 use Rattle.lines.specs.Spelling.{digits, ending, ltlWord, ltlPlaces, nodeLine}
 use Rattle.lines.specs.NodeAnswer.{nodeFault, answerTo, nodeAnswer, nodeList}
-use Rattle.lines.specs.Form.{elem}
-use Rattle.lines.specs.Writer.{Wrote}
+use Rattle.lines.specs.Inner.Form.{elem}
+use Rattle.lines.specs.Inner.Writer.{Wrote}
 use Rattle.lines.specs.declared.nodes.NodeLine.{NodeLine}
 use Rattle.lines.specs.declared.nodes.NodeLine.the-variants.{Bytes, Refused}
 use Rattle.lines.proofs.NumberLaw.{digits-unique}

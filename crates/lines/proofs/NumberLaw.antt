@@ -8,8 +8,8 @@ use borrow.Author.Tests.{lt-ltb, le-ltb, ltb-true, ltb-false}
 use lib.ListN.{length, length-append}
 use lib.Dec.{ltb}
 use Rattle.lines.specs.Spelling.{digitsTo, digits}
-use Rattle.lines.specs.Places.{Begins}
-use Rattle.lines.specs.Number.{IsDigit, NoDigit, Numeral}
+use Rattle.lines.specs.Inner.Places.{Begins}
+use Rattle.lines.specs.Inner.Number.{IsDigit, NoDigit, Numeral}
 
 -- ── The digits of a number ──
 

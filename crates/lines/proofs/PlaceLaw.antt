@@ -7,7 +7,7 @@ use native.Mathlib.Numerals.{add-one}
 use native.Mathlib.Nat.{add-zero}
 use lib.ListN.{length, getD, take, drop, take-append-drop, length-take, length-drop, length-append}
 use lib.Seq.{take-take, drop-append-le, length-take-le, drop-cons, getD-take, getD-drop}
-use Rattle.lines.specs.Places.{byteAt, Stands, Agree, Language, Begins, Halts, Stops, StopsLine}
+use Rattle.lines.specs.Inner.Places.{byteAt, Stands, Agree, Language, Begins, Halts, Stops, StopsLine}
 
 -- ── Bytes ──
 

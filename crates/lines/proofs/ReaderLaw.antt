@@ -14,11 +14,11 @@ use Rattle.table.specs.Node.{Node, node, numbersOf, _▸_, last}
 use Rattle.table.proofs.NodeLaw.{length-numbers, length-more}
 use Rattle.lines.specs.Text.{text}
 use Rattle.lines.specs.Spelling.{digits}
-use Rattle.lines.specs.Places.{byteAt, Stands, Agree, Language, Begins, Halts, Stops}
-use Rattle.lines.specs.Number.{NoDigit, Numeral, Numbered}
-use Rattle.lines.specs.Scan.{NumberStands, WordRead}
-use Rattle.lines.specs.Form.{Form, truth, signal, one, two, word, arity, leftSort, rightSort, kinds, elem, Sorted, OfKind, bytes, inner, closed, wide}
-use Rattle.lines.specs.Reader.{WordOf, Known, FormOf, OperandsOf, filled, FormStands, Ended, OperandsStand}
+use Rattle.lines.specs.Inner.Places.{byteAt, Stands, Agree, Language, Begins, Halts, Stops}
+use Rattle.lines.specs.Inner.Number.{NoDigit, Numeral, Numbered}
+use Rattle.lines.specs.Inner.Scan.{NumberStands, WordRead}
+use Rattle.lines.specs.Inner.Form.{Form, truth, signal, one, two, word, arity, leftSort, rightSort, kinds, elem, Sorted, OfKind, bytes, inner, closed, wide}
+use Rattle.lines.specs.Inner.Reader.{WordOf, Known, FormOf, OperandsOf, filled, FormStands, Ended, OperandsStand}
 use Rattle.lines.proofs.PlaceLaw.{agree-byte, agree-less, byte-drop, stands-one, stands-join, stands-same, stops-here, halts-first, begins-first, halts-after}
 use Rattle.lines.proofs.ScanLaw.{no-digit-agree}
 use Rattle.lines.proofs.StoreLaw.{or-false, sets-sets}

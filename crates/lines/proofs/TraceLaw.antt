@@ -13,8 +13,8 @@ use Rattle.lines.specs.Text.{text}
 use Rattle.lines.specs.Spelling.{digits, ending, inside, traceLine}
 use Rattle.lines.specs.Limits.{mostBytes}
 use Rattle.lines.specs.TraceAnswer.{largeLetter, traceAnswer, traceList, TraceAnswer}
-use Rattle.lines.specs.Places.{byteAt, Stands, Agree, Language, Begins, Halts, Stops, StopsLine}
-use Rattle.lines.specs.LettersReader.{further, listed, Any, Some, Spelled, LettersStand, finiteRest, lassoRest, wholeLine, ListsStand, ListsRead}
+use Rattle.lines.specs.Inner.Places.{byteAt, Stands, Agree, Language, Begins, Halts, Stops, StopsLine}
+use Rattle.lines.specs.Inner.LettersReader.{further, listed, Any, Some, Spelled, LettersStand, finiteRest, lassoRest, wholeLine, ListsStand, ListsRead}
 use Rattle.lines.specs.declared.traces.Lists.{Lists}
 use Rattle.lines.specs.declared.traces.Lists.the-variants.{Got, No}
 use Rattle.lines.specs.declared.traces.TraceLine.{TraceLine}

@@ -6,7 +6,7 @@ use Prim.Native.Nat.{ℕ, suc}
 use native.Mathlib.Omega.{arith}
 use borrow.Author.Tests.{eqb-true, eqb-false, eq-eqb}
 use lib.Dec.{T, eqb}
-use Rattle.lines.specs.Form.{elem}
+use Rattle.lines.specs.Inner.Form.{elem}
 
 -- ── Members of a list ──
 

@@ -11,7 +11,7 @@ use Rattle.table.specs.Node.{node}
 use Rattle.table.proofs.KindLaw.{_⨾_, each}
 use Rattle.lines.specs.Text.{text}
 use Rattle.lines.specs.Spelling.{digits, ending, ltlWord, ltlPlaces, nodeLine}
-use Rattle.lines.specs.Writer.{Wrote, spaced}
+use Rattle.lines.specs.Inner.Writer.{Wrote, spaced}
 use Rattle.lines.proofs.StoreLaw.{sets-sets}
 use Rattle.lines.proofs.NumberLaw.{digits-small, digits-more, digits-length}
 

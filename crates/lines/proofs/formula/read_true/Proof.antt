@@ -4,9 +4,9 @@ use native.Mathlib.Omega.{arith}
 use mathlib.Core.Path.{refl, sym, subst}
 use Prim.Native.Nat.{ℕ, _+_}
 use Rattle.lines.specs.Text.{text}
-use Rattle.lines.specs.Places.{Stops, Stands}
-use Rattle.lines.specs.Form.{truth, Sorted}
-use Rattle.lines.specs.Reader.{FormOf, Fits}
+use Rattle.lines.specs.Inner.Places.{Stops, Stands}
+use Rattle.lines.specs.Inner.Form.{truth, Sorted}
+use Rattle.lines.specs.Inner.Reader.{FormOf, Fits}
 use Rattle.lines.proofs.ReaderLaw.{true-not-due, true-part, true-stands}
 use Rattle.lines.proofs.formula.read_true.Statement.{statement}
 use Rattle.lines.proofs.formula.read_true.Tie as tie
