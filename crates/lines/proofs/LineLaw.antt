@@ -1,15 +1,15 @@
 -- What each way out of the reader of a formula line gives, in terms of how formulas are spelled.
 use mathlib.Core.Path.{_≡_, refl, ap, sym, subst, _∙_}
-use mathlib.Core.Bool.{Bool, true, false, cond, _&&_, _||_}
+use mathlib.Core.Bool.{Bool, true, false, _&&_, _||_}
 use mathlib.Core.List.{List, [], _∷_, _++_, append-assoc, append-nil, append-cancel-left}
-use Prim.Native.Nat.{ℕ, zero, suc, _+_, _*_, _<_, _≤_}
+use Prim.Native.Nat.{ℕ, suc, _+_, _*_, _<_, _≤_}
 use native.Mathlib.Omega.{arith}
 use borrow.Author.Tests.{lt-ltb, le-ltb, ne-eqb}
 use lib.ListN.{length, drop}
 use lib.Seq.{drop-length}
 use lib.Dec.{eqb, ltb, leb}
 use Rattle.trace.specs.Letter.{signals}
-use Rattle.table.specs.Node.{Node, node, _▸_, last}
+use Rattle.table.specs.Node.{Node, node, _▸_}
 use Rattle.psl.specs.Formula.{btrue, Formula, weak}
 use Rattle.table.specs.Answer.{refused}
 use Rattle.lines.specs.Text.{text}

@@ -2,7 +2,7 @@
 ghost use mathlib.Core.Path.{_≡_};
 ghost use mathlib.Core.Bool.{_||_};
 ghost use Prim.Native.Nat.{ℕ, _+_, _*_, _<_, _≤_};
-ghost use lib.ListN.{length, drop};
+ghost use lib.ListN.{length};
 ghost use Rattle.lines.specs.Inner.Places.{byteAt};
 ghost use Rattle.lines.specs.Inner.Scan.{DigitRead, Counts, NumberRead, WordRead};
 

@@ -1,9 +1,9 @@
 -- Forms of either sort as the reader meets them: `true`, `(var K)`, or the word of a kind with one or two operands.
 use mathlib.Core.Path.{_≡_}
-use mathlib.Core.Bool.{Bool, true, false, _||_}
+use mathlib.Core.Bool.{Bool, false, _||_}
 use mathlib.Core.List.{List, [], _∷_, _++_}
 use Prim.Native.Nat.{ℕ, zero, suc}
-use lib.ListN.{length, getD}
+use lib.ListN.{getD}
 use lib.Dec.{T, eqb, leb}
 use Rattle.trace.specs.Letter.{signals}
 use Rattle.table.specs.Node.{Node, node, _▸_, last}

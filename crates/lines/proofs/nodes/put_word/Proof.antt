@@ -1,7 +1,6 @@
 -- Each kind writes its word.
 use borrow.Author.Needs.{needs}
-use native.Mathlib.Omega.{arith}
-use mathlib.Core.Path.{_≡_, sym, subst}
+use mathlib.Core.Path.{sym, subst}
 use Prim.Native.Nat.{ℕ}
 use Rattle.lines.specs.Spelling.{ltlWord}
 use Rattle.lines.specs.Inner.Writer.{Wrote}
