@@ -6,9 +6,9 @@ use Prim.Native.Nat.{ℕ, zero, suc, _≤_, _<_}
 use native.Mathlib.Omega.{arith}
 use lib.Dec.{T}
 use Rattle.lines.specs.Text.{text}
-use Rattle.lines.specs.Number.{NoDigit}
-use Rattle.lines.specs.Form.{Form, truth, signal, one, two, word, shape, arity, leftSort, rightSort, kinds, elem, Sorted, OfKind, bytes, inner}
-use Rattle.lines.specs.Reader.{Ended}
+use Rattle.lines.specs.Inner.Number.{NoDigit}
+use Rattle.lines.specs.Inner.Form.{Form, truth, signal, one, two, word, shape, arity, leftSort, rightSort, kinds, elem, Sorted, OfKind, bytes, inner}
+use Rattle.lines.specs.Inner.Reader.{Ended}
 use Rattle.lines.proofs.NumberLaw.{digits-unique}
 use Rattle.lines.proofs.WordLaw.{all-elem, Distinct, word-unique}
 

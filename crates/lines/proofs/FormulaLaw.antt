@@ -1,17 +1,17 @@
 -- Formulas as forms: the forms of sort 0 are the Booleans', those of sort 1 the formulas'. So no two formulas are spelled alike.
-use mathlib.Core.Path.{_≡_, refl, ap, sym, subst, _∙_}
-use mathlib.Core.Bool.{true, false, cond}
-use mathlib.Core.List.{List, [], _∷_, _++_, append-assoc, append-cancel-left, head-eq-of-cons-eq, tail-eq-of-cons-eq}
-use Prim.Native.Nat.{ℕ, zero, suc}
+use mathlib.Core.Path.{_≡_, refl, ap, sym, _∙_}
+use mathlib.Core.Bool.{cond}
+use mathlib.Core.List.{List, [], _∷_, _++_, append-assoc, append-cancel-left, tail-eq-of-cons-eq}
+use Prim.Native.Nat.{ℕ}
 use native.Mathlib.Omega.{arith}
 use lib.Dec.{T, eqb}
-use Rattle.table.specs.Node.{Node, node, _▸_, last}
+use Rattle.table.specs.Node.{Node, node}
 use Rattle.psl.specs.Formula.{BoolExpr, btrue, var, bnot, band, Formula, weak, strong, fnot, fand, next, until, abort}
-use Rattle.psl.specs.Table.{Part, boolean, formula, asBoolean, asFormula, partOf}
+use Rattle.psl.specs.Table.{Part, boolean, formula, asFormula, partOf}
 use Rattle.lines.specs.Text.{text}
-use Rattle.lines.specs.Spelling.{brackets, digits, spellB, spell, formulaLine}
+use Rattle.lines.specs.Spelling.{spellB, spell, formulaLine}
 use Rattle.lines.specs.Closing.{nodesB, nodes}
-use Rattle.lines.specs.Form.{Form, truth, signal, one, two, word, shape, arity, leftSort, rightSort, kinds, elem, Sorted, bytes, closed}
+use Rattle.lines.specs.Inner.Form.{Form, truth, signal, one, two, word, shape, arity, leftSort, rightSort, kinds, elem, Sorted, bytes, closed}
 use Rattle.lines.proofs.FormLaw.{boolean-kinds, formula-kinds, form-unique}
 
 abbrev pub boolForm : BoolExpr → Form

@@ -8,10 +8,10 @@ use native.Mathlib.Omega.{arith}
 use borrow.Author.Tests.{eqb-true}
 use lib.ListN.{length, drop}
 use lib.Dec.{T, eqb}
-use Rattle.lines.specs.Places.{Agree, Begins, Stands}
-use Rattle.lines.specs.Scan.{WordRead}
-use Rattle.lines.specs.Form.{word, kinds, elem}
-use Rattle.lines.specs.Reader.{WordOf, KeywordRead}
+use Rattle.lines.specs.Inner.Places.{Agree, Begins, Stands}
+use Rattle.lines.specs.Inner.Scan.{WordRead}
+use Rattle.lines.specs.Inner.Form.{word, kinds, elem}
+use Rattle.lines.specs.Inner.Reader.{WordOf, KeywordRead}
 use Rattle.lines.specs.declared.formula.Word.{Word}
 use Rattle.lines.specs.declared.formula.Word.the-variants.{Found, No}
 use Rattle.lines.proofs.PlaceLaw.{agree-less}

@@ -1,25 +1,23 @@
 -- What each way out of the readers of letters gives.
 use mathlib.Core.Path.{_≡_, refl, ap, sym, subst, _∙_}
 use mathlib.Core.Bool.{Bool, true, false, _||_}
-use mathlib.Core.List.{List, [], _∷_, _++_, map, append-assoc, append-nil, head-eq-of-cons-eq, tail-eq-of-cons-eq}
-use Prim.Native.Nat.{ℕ, zero, suc, _+_, _^_, _<_, _≤_}
+use mathlib.Core.List.{List, [], _∷_, _++_, append-assoc, append-nil, head-eq-of-cons-eq, tail-eq-of-cons-eq}
+use Prim.Native.Nat.{ℕ, suc, _+_, _^_, _<_, _≤_}
 use native.Mathlib.Omega.{arith}
-use native.Mathlib.Numerals.{add-one}
 use borrow.Author.Tests.{le-leb, lt-leb}
 use lib.ListN.{length, drop, set, length-append}
 use lib.Seq.{sets}
 use lib.Dec.{leb}
 use Rattle.trace.specs.Letter.{signals}
-use Rattle.lines.specs.Text.{text}
-use Rattle.lines.specs.Spelling.{digits, ending, inside}
-use Rattle.lines.specs.Places.{byteAt, Stands, Agree, Language, Begins, Halts, Stops, StopsLine}
-use Rattle.lines.specs.Number.{NoDigit, Numeral, Numbered}
-use Rattle.lines.specs.Scan.{NumberStands}
+use Rattle.lines.specs.Spelling.{digits}
+use Rattle.lines.specs.Inner.Places.{byteAt, Stands, Agree, Language, Begins, Halts, Stops}
+use Rattle.lines.specs.Inner.Number.{NoDigit, Numeral, Numbered}
+use Rattle.lines.specs.Inner.Scan.{NumberStands}
 use Rattle.lines.specs.TraceAnswer.{largeLetter}
-use Rattle.lines.specs.LettersReader.{LetterStands, further, listed, Any, Some, Spelled, LettersStand, LettersRead}
+use Rattle.lines.specs.Inner.LettersReader.{LetterStands, further, listed, Any, Some, Spelled, LettersStand, LettersRead}
 use Rattle.lines.specs.declared.traces.Letters.{Letters}
 use Rattle.lines.specs.declared.traces.Letters.the-variants.{Got, No}
-use Rattle.lines.proofs.PlaceLaw.{agree-byte, byte-drop, stands-one, stands-join, stops-here, halts-first, halts-after}
+use Rattle.lines.proofs.PlaceLaw.{agree-byte, byte-drop, stands-one, stands-join, halts-first, halts-after}
 use Rattle.lines.proofs.NumberLaw.{digits-unique, digits-first}
 use Rattle.lines.proofs.ScanLaw.{no-digit-agree}
 use Rattle.lines.proofs.StoreLaw.{or-false, or-false-right, or-assoc, sets-sets}

@@ -1,14 +1,13 @@
 -- What each way out of the writer of a node line gives.
 use mathlib.Core.Path.{_≡_, refl, ap, sym, subst, _∙_}
-use mathlib.Core.Bool.{true, false}
+use mathlib.Core.Bool.{false}
 use mathlib.Core.Option.{Option, none, some}
 use mathlib.Core.List.{List, [], _∷_, _++_, map, append-assoc, append-cancel-left, head-eq-of-cons-eq, tail-eq-of-cons-eq}
-use Prim.Native.Nat.{ℕ, zero, suc, _+_, _<_, _≤_}
+use Prim.Native.Nat.{ℕ, zero, suc, _<_, _≤_}
 use native.Mathlib.Omega.{arith}
 use borrow.Author.Tests.{lt-ltb, le-ltb, ltb-true}
 use lib.ListN.{length, take}
 use lib.Dec.{T, ltb}
-use lib.Seq.{sets}
 use Rattle.trace.specs.declared.Refusal.{Refusal}
 use Rattle.table.specs.Node.{Node, node}
 use Rattle.table.specs.Answer.{refused, checked}
@@ -21,8 +20,8 @@ use Rattle.ltl.specs.Check.{ltlRules}
 use Rattle.lines.specs.Text.{text}
 use Rattle.lines.specs.Spelling.{digits, ending, ltlWord, ltlPlaces, nodeLine}
 use Rattle.lines.specs.NodeAnswer.{nodeFault, answerTo, nodeAnswer, nodeList}
-use Rattle.lines.specs.Form.{elem}
-use Rattle.lines.specs.Writer.{Wrote}
+use Rattle.lines.specs.Inner.Form.{elem}
+use Rattle.lines.specs.Inner.Writer.{Wrote}
 use Rattle.lines.specs.declared.nodes.NodeLine.{NodeLine}
 use Rattle.lines.specs.declared.nodes.NodeLine.the-variants.{Bytes, Refused}
 use Rattle.lines.proofs.NumberLaw.{digits-unique}

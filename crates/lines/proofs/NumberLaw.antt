@@ -1,15 +1,14 @@
 -- Laws of decimal digits: a number is written in one way, and the digits tell where it ends.
 use mathlib.Core.Path.{_≡_, refl, ap, sym, subst, _∙_}
 use mathlib.Core.Bool.{Bool, true, false, cond}
-use mathlib.Core.List.{List, [], _∷_, _++_, append-assoc, head-eq-of-cons-eq, tail-eq-of-cons-eq, cons≢nil, nil≢cons}
+use mathlib.Core.List.{List, [], _∷_, _++_, head-eq-of-cons-eq, tail-eq-of-cons-eq}
 use Prim.Native.Nat.{ℕ, zero, suc, _+_, _*_, _-_, _/_, _%_, _<_, _≤_}
 use native.Mathlib.Omega.{arith}
 use borrow.Author.Tests.{lt-ltb, le-ltb, ltb-true, ltb-false}
 use lib.ListN.{length, length-append}
 use lib.Dec.{ltb}
 use Rattle.lines.specs.Spelling.{digitsTo, digits}
-use Rattle.lines.specs.Places.{Begins}
-use Rattle.lines.specs.Number.{IsDigit, NoDigit, Numeral}
+use Rattle.lines.specs.Inner.Number.{IsDigit, NoDigit}
 
 -- ── The digits of a number ──
 

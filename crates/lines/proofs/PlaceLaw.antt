@@ -1,13 +1,13 @@
 -- Laws of places: what stands in a line, and where a reader has to stop.
 use mathlib.Core.Path.{_≡_, refl, ap, sym, subst, _∙_}
-use mathlib.Core.List.{List, [], _∷_, _++_, append-assoc, append-nil, append-cancel-right, head-eq-of-cons-eq}
-use Prim.Native.Nat.{ℕ, zero, suc, _+_, _<_, _≤_}
+use mathlib.Core.List.{List, [], _∷_, _++_, append-assoc, append-nil, append-cancel-right}
+use Prim.Native.Nat.{ℕ, suc, _+_, _<_, _≤_}
 use native.Mathlib.Omega.{arith}
 use native.Mathlib.Numerals.{add-one}
 use native.Mathlib.Nat.{add-zero}
-use lib.ListN.{length, getD, take, drop, take-append-drop, length-take, length-drop, length-append}
+use lib.ListN.{length, take, drop, take-append-drop, length-take, length-drop}
 use lib.Seq.{take-take, drop-append-le, length-take-le, drop-cons, getD-take, getD-drop}
-use Rattle.lines.specs.Places.{byteAt, Stands, Agree, Language, Begins, Halts, Stops, StopsLine}
+use Rattle.lines.specs.Inner.Places.{byteAt, Stands, Agree, Language, Begins, Halts, Stops, StopsLine}
 
 -- ── Bytes ──
 

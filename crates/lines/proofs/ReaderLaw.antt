@@ -2,11 +2,11 @@
 use mathlib.Core.Path.{_≡_, refl, ap, sym, subst, _∙_}
 use mathlib.Core.Logic.{_⊎_, inl, inr}
 use mathlib.Core.Bool.{Bool, true, false, _||_}
-use mathlib.Core.List.{List, [], _∷_, _++_, append-assoc, append-nil, append-cancel-left, head-eq-of-cons-eq, tail-eq-of-cons-eq}
+use mathlib.Core.List.{List, [], _∷_, _++_, append-assoc, append-nil, head-eq-of-cons-eq, tail-eq-of-cons-eq}
 use Prim.Native.Nat.{ℕ, zero, suc, _+_, _*_, _-_, _<_, _≤_}
 use native.Mathlib.Omega.{arith}
 use borrow.Author.Tests.{le-leb, lt-leb}
-use lib.ListN.{length, drop, set}
+use lib.ListN.{length, drop}
 use lib.Seq.{sets}
 use lib.Dec.{T, leb}
 use Rattle.trace.specs.Letter.{signals}
@@ -14,15 +14,15 @@ use Rattle.table.specs.Node.{Node, node, numbersOf, _▸_, last}
 use Rattle.table.proofs.NodeLaw.{length-numbers, length-more}
 use Rattle.lines.specs.Text.{text}
 use Rattle.lines.specs.Spelling.{digits}
-use Rattle.lines.specs.Places.{byteAt, Stands, Agree, Language, Begins, Halts, Stops}
-use Rattle.lines.specs.Number.{NoDigit, Numeral, Numbered}
-use Rattle.lines.specs.Scan.{NumberStands, WordRead}
-use Rattle.lines.specs.Form.{Form, truth, signal, one, two, word, arity, leftSort, rightSort, kinds, elem, Sorted, OfKind, bytes, inner, closed, wide}
-use Rattle.lines.specs.Reader.{WordOf, Known, FormOf, OperandsOf, filled, FormStands, Ended, OperandsStand}
-use Rattle.lines.proofs.PlaceLaw.{agree-byte, agree-less, byte-drop, stands-one, stands-join, stands-same, stops-here, halts-first, begins-first, halts-after}
+use Rattle.lines.specs.Inner.Places.{byteAt, Stands, Agree, Language, Begins, Halts, Stops}
+use Rattle.lines.specs.Inner.Number.{Numeral, Numbered}
+use Rattle.lines.specs.Inner.Scan.{NumberStands}
+use Rattle.lines.specs.Inner.Form.{Form, truth, signal, one, two, word, arity, leftSort, rightSort, kinds, elem, Sorted, OfKind, bytes, inner, closed, wide}
+use Rattle.lines.specs.Inner.Reader.{WordOf, Known, FormOf, OperandsOf, filled, FormStands, Ended, OperandsStand}
+use Rattle.lines.proofs.PlaceLaw.{agree-byte, byte-drop, stands-one, stands-join, stops-here, halts-first, begins-first, halts-after}
 use Rattle.lines.proofs.ScanLaw.{no-digit-agree}
 use Rattle.lines.proofs.StoreLaw.{or-false, sets-sets}
-use Rattle.lines.proofs.FormLaw.{View, view, Bracketed, kind-fact, kind-sorted, kind-bytes, none-of, one-of, two-of, ended-bracket, form-unique, operands-unique, sample, sample-sorted, sample-open, kind-sample, open-bytes, word-kind, var-arity}
+use Rattle.lines.proofs.FormLaw.{View, view, kind-fact, kind-sorted, kind-bytes, none-of, one-of, two-of, form-unique, operands-unique, sample, sample-sorted, sample-open, kind-sample, open-bytes, word-kind, var-arity}
 
 -- ── The lent list ──
 

@@ -10,9 +10,9 @@ use native.Mathlib.Nat.{add-zero}
 use lib.ListN.{length, getD, take, drop, drop-of-length-le, take-append-drop, List·getD-eq-default}
 use lib.Seq.{take-suc, take-all, split-at}
 use Rattle.lines.specs.Spelling.{digits}
-use Rattle.lines.specs.Places.{byteAt, Stands, Agree, Halts}
-use Rattle.lines.specs.Number.{IsDigit, NoDigit, Numeral, Numbered}
-use Rattle.lines.specs.Scan.{Counts, NumberStands, NumberRead, WordRead}
+use Rattle.lines.specs.Inner.Places.{byteAt, Stands, Agree, Halts}
+use Rattle.lines.specs.Inner.Number.{IsDigit, NoDigit, Numeral, Numbered}
+use Rattle.lines.specs.Inner.Scan.{Counts, NumberStands, NumberRead, WordRead}
 use Rattle.lines.specs.declared.scan.Number.the-variants.{Small, Large}
 use Rattle.lines.proofs.PlaceLaw.{agree-byte, agree-less, byte-drop, drop-byte, stands-one, stands-join, stands-same}
 use Rattle.lines.proofs.NumberLaw.{digits-small, digits-more, digits-first}

@@ -1,13 +1,12 @@
 -- The table that a formula line gives stands for that formula: each form's node, when it closes, has the form's value.
-use mathlib.Core.Path.{_≡_, refl, ap, sym, _∙_}
-use mathlib.Core.List.{List, [], _∷_}
+use mathlib.Core.Path.{_≡_, refl, ap, _∙_}
+use mathlib.Core.List.{List, []}
 use Prim.Native.Nat.{ℕ, _-_}
 use native.Mathlib.Omega.{arith}
-use lib.ListN.{length}
-use Rattle.table.specs.Node.{Node, node, nodesOf, numbersOf, _▸_, last, look, grow, root}
-use Rattle.table.proofs.NodeLaw.{nodes-numbers, Named, Grown, grown-one, grown-join, length-grow}
+use Rattle.table.specs.Node.{Node, node, numbersOf, _▸_, last, look, grow}
+use Rattle.table.proofs.NodeLaw.{nodes-numbers, Grown, grown-one, grown-join, length-grow}
 use Rattle.psl.specs.Formula.{BoolExpr, btrue, var, bnot, band, Formula, weak, strong, fnot, fand, next, until, abort}
-use Rattle.psl.specs.Table.{Part, boolean, formula, asBoolean, asFormula, partOf, formulaOf}
+use Rattle.psl.specs.Table.{Part, boolean, formula, asFormula, partOf, formulaOf}
 use Rattle.lines.specs.Closing.{nodesB, nodes, table}
 
 abbrev none : Part

@@ -1,8 +1,8 @@
 -- What each way out of the reader of a trace line gives, in terms of how traces are spelled. So no two traces are spelled alike.
-use mathlib.Core.Path.{_≡_, refl, ap, sym, subst, _∙_}
+use mathlib.Core.Path.{_≡_, refl, ap, sym, _∙_}
 use mathlib.Core.Bool.{Bool, true, false, _||_}
-use mathlib.Core.List.{List, [], _∷_, _++_, map, append-assoc, append-nil, append-cancel-left, head-eq-of-cons-eq, tail-eq-of-cons-eq}
-use Prim.Native.Nat.{ℕ, zero, suc, _+_, _<_, _≤_}
+use mathlib.Core.List.{List, [], _∷_, _++_, append-nil, append-cancel-left, head-eq-of-cons-eq, tail-eq-of-cons-eq}
+use Prim.Native.Nat.{ℕ, suc, _+_, _<_, _≤_}
 use native.Mathlib.Omega.{arith}
 use borrow.Author.Tests.{lt-ltb, le-ltb}
 use lib.ListN.{length, drop}
@@ -10,17 +10,17 @@ use lib.Seq.{sets, drop-length}
 use lib.Dec.{ltb}
 use Rattle.table.specs.Answer.{refused}
 use Rattle.lines.specs.Text.{text}
-use Rattle.lines.specs.Spelling.{digits, ending, inside, traceLine}
+use Rattle.lines.specs.Spelling.{traceLine}
 use Rattle.lines.specs.Limits.{mostBytes}
 use Rattle.lines.specs.TraceAnswer.{largeLetter, traceAnswer, traceList, TraceAnswer}
-use Rattle.lines.specs.Places.{byteAt, Stands, Agree, Language, Begins, Halts, Stops, StopsLine}
-use Rattle.lines.specs.LettersReader.{further, listed, Any, Some, Spelled, LettersStand, finiteRest, lassoRest, wholeLine, ListsStand, ListsRead}
+use Rattle.lines.specs.Inner.Places.{byteAt, Stands, Agree, Language, Begins, Stops, StopsLine}
+use Rattle.lines.specs.Inner.LettersReader.{further, listed, Any, Some, Spelled, LettersStand, finiteRest, lassoRest, wholeLine, ListsStand, ListsRead}
 use Rattle.lines.specs.declared.traces.Lists.{Lists}
 use Rattle.lines.specs.declared.traces.Lists.the-variants.{Got, No}
 use Rattle.lines.specs.declared.traces.TraceLine.{TraceLine}
 use Rattle.lines.specs.declared.traces.TraceLine.the-variants.{Letters, Refused}
 use Rattle.lines.proofs.StoreLaw.{or-false, or-false-right}
-use Rattle.lines.proofs.PlaceLaw.{agree-self, agree-less, stands-one, stands-join, stops-here, halts-first, begins-first, halts-after, stops-line, Nothing, stops-end}
+use Rattle.lines.proofs.PlaceLaw.{agree-self, agree-less, stands-one, stands-join, stops-here, halts-first, halts-after, stops-line, Nothing, stops-end}
 use Rattle.lines.proofs.LettersLaw.{further-unique, list-unique}
 
 abbrev Both : (List ℕ → List ℕ → Language) → Language

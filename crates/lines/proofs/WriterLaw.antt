@@ -1,7 +1,7 @@
 -- What each way out of the inner writers gives.
 use mathlib.Core.Path.{_≡_, refl, ap, sym, subst, _∙_}
 use mathlib.Core.List.{List, [], _∷_, _++_, map, append-assoc}
-use Prim.Native.Nat.{ℕ, zero, suc, _+_, _*_, _/_, _%_, _<_, _≤_}
+use Prim.Native.Nat.{ℕ, zero, suc, _+_, _/_, _%_, _<_, _≤_}
 use native.Mathlib.Omega.{arith}
 use native.Mathlib.Numerals.{add-one}
 use native.Mathlib.Nat.{le-antisymm, le-of-suc-le-suc}
@@ -11,7 +11,7 @@ use Rattle.table.specs.Node.{node}
 use Rattle.table.proofs.KindLaw.{_⨾_, each}
 use Rattle.lines.specs.Text.{text}
 use Rattle.lines.specs.Spelling.{digits, ending, ltlWord, ltlPlaces, nodeLine}
-use Rattle.lines.specs.Writer.{Wrote, spaced}
+use Rattle.lines.specs.Inner.Writer.{Wrote, spaced}
 use Rattle.lines.proofs.StoreLaw.{sets-sets}
 use Rattle.lines.proofs.NumberLaw.{digits-small, digits-more, digits-length}
 

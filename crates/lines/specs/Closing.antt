@@ -1,5 +1,5 @@
 -- The PSL table of a formula: its nodes in the order in which their forms close.
-use mathlib.Core.List.{List, [], _∷_}
+use mathlib.Core.List.{List, []}
 use Rattle.table.specs.Node.{Node, node, _▸_, last}
 use Rattle.psl.specs.Formula.{BoolExpr, btrue, var, bnot, band, Formula, weak, strong, fnot, fand, next, until, abort}
 

@@ -5,10 +5,4 @@ pub mod Limits
 pub mod FormulaAnswer
 pub mod TraceAnswer
 pub mod NodeAnswer
-pub mod Places
-pub mod Number
-pub mod Scan
-pub mod Form
-pub mod Reader
-pub mod LettersReader
-pub mod Writer
+pub mod Inner

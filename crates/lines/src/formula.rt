@@ -5,25 +5,26 @@ use crate::scan::byte;
 use crate::scan::either;
 use crate::scan::match_word;
 use crate::scan::read_number;
+use table::SIGNALS;
 use trace::Refusal;
 ghost use mathlib.Core.Path.{_≡_};
 ghost use Prim.Native.Nat.{ℕ, _+_, _*_, _<_, _≤_};
 ghost use mathlib.Core.List.{List, [], _∷_};
 ghost use lib.ListN.{length, set};
 ghost use lib.Seq.{sets};
-ghost use Rattle.lines.specs.Form.{word, shape as shapeOf, kinds};
-ghost use Rattle.lines.specs.Places.{byteAt};
+ghost use Rattle.lines.specs.Inner.Form.{word, shape as shapeOf, kinds};
+ghost use Rattle.lines.specs.Inner.Places.{byteAt};
 ghost use Rattle.lines.specs.Limits.{mostBytes};
 ghost use Rattle.lines.specs.FormulaAnswer.{FormulaAnswer};
-ghost use Rattle.lines.specs.Reader.{Fits, Known, KeywordRead, FormRead, OperandsRead, WholeRead};
+ghost use Rattle.lines.specs.Inner.Reader.{Fits, Known, KeywordRead, FormRead, OperandsRead, WholeRead};
 
 // The most nodes of a PSL table, and the largest signal.
 const MOST_NODES: usize = 1024;
 
-const LARGEST_SIGNAL: u64 = 31;
+const LARGEST_SIGNAL: u64 = SIGNALS as u64 - 1;
 
 // A number at a place, nothing past the end.
-pub fn put(out: &mut [u16], at: usize, v: u16)
+fn put(out: &mut [u16], at: usize, v: u16)
     ensures { λ _. ⌜ now (out .exit) ≡ set (now (out .entry)) at v ⌝ }
 {
     if at < out.len() {
@@ -32,7 +33,7 @@ pub fn put(out: &mut [u16], at: usize, v: u16)
 }
 
 // A node's three numbers.
-pub fn put_node(out: &mut [u16], n: usize, kind: u16, left: u16, right: u16)
+fn put_node(out: &mut [u16], n: usize, kind: u16, left: u16, right: u16)
     requires { ⌜ n ≤ 16384 ⌝ }
     ensures { λ _. ⌜ now (out .exit) ≡ sets (now (out .entry)) (3 * n) (kind ∷ left ∷ right ∷ []) ⌝ }
 {
@@ -42,13 +43,13 @@ pub fn put_node(out: &mut [u16], n: usize, kind: u16, left: u16, right: u16)
 }
 
 // The word that stands at a place, or where none can follow.
-pub enum Word {
+enum Word {
     Found { kind: u16, next: usize },
     No(usize),
 }
 
 // One more word that may stand at a place.
-pub fn try_word(s: &[u8], at: usize, w: &[u8], kind: u16, others: Word) -> Word
+fn try_word(s: &[u8], at: usize, w: &[u8], kind: u16, others: Word) -> Word
     requires { ⌜ at ≤ length (now s) ⌝ }
     ensures { λ r. ⌜ ((ks : List ℕ) → word kind ≡ now (w .entry) → KeywordRead ks (now (s .entry)) at others → KeywordRead (kind ∷ ks) (now (s .entry)) at r) ⌝ }
 {
@@ -63,31 +64,31 @@ pub fn try_word(s: &[u8], at: usize, w: &[u8], kind: u16, others: Word) -> Word
 }
 
 // The word of a Boolean, the last tried first.
-pub fn boolean_word(s: &[u8], at: usize) -> Word
+fn boolean_word(s: &[u8], at: usize) -> Word
     requires { ⌜ at ≤ length (now s) ⌝ }
     ensures { λ r. ⌜ KeywordRead (kinds 0) (now (s .entry)) at r ⌝ }
 {
-    let c = try_word(s, at, b"band ", 3, Word::No(at));
-    let b = try_word(s, at, b"bnot ", 2, c);
-    try_word(s, at, b"var ", 1, b)
+    let found = try_word(s, at, b"band ", 3, Word::No(at));
+    let found = try_word(s, at, b"bnot ", 2, found);
+    try_word(s, at, b"var ", 1, found)
 }
 
 // The word of a formula, the last tried first.
-pub fn formula_word(s: &[u8], at: usize) -> Word
+fn formula_word(s: &[u8], at: usize) -> Word
     requires { ⌜ at ≤ length (now s) ⌝ }
     ensures { λ r. ⌜ KeywordRead (kinds 1) (now (s .entry)) at r ⌝ }
 {
-    let g = try_word(s, at, b"abort ", 10, Word::No(at));
-    let f = try_word(s, at, b"until ", 9, g);
-    let e = try_word(s, at, b"next ", 8, f);
-    let d = try_word(s, at, b"and ", 7, e);
-    let c = try_word(s, at, b"not ", 6, d);
-    let b = try_word(s, at, b"strong ", 5, c);
-    try_word(s, at, b"weak ", 4, b)
+    let found = try_word(s, at, b"abort ", 10, Word::No(at));
+    let found = try_word(s, at, b"until ", 9, found);
+    let found = try_word(s, at, b"next ", 8, found);
+    let found = try_word(s, at, b"and ", 7, found);
+    let found = try_word(s, at, b"not ", 6, found);
+    let found = try_word(s, at, b"strong ", 5, found);
+    try_word(s, at, b"weak ", 4, found)
 }
 
 // The word of a form of a sort.
-pub fn keyword(s: &[u8], at: usize, sort: u16) -> Word
+fn keyword(s: &[u8], at: usize, sort: u16) -> Word
     requires { ⌜ at ≤ length (now s) ⌝ }
     ensures { λ r. ⌜ KeywordRead (kinds sort) (now (s .entry)) at r ⌝ }
 {
@@ -98,9 +99,9 @@ pub fn keyword(s: &[u8], at: usize, sort: u16) -> Word
 }
 
 // How many forms a kind takes, and the sorts of the left and of the right one.
-pub struct Shape(pub u16, pub u16, pub u16);
+struct Shape(pub u16, pub u16, pub u16);
 
-pub fn takes(kind: u16) -> Shape
+fn takes(kind: u16) -> Shape
     ensures { λ r. ⌜ r ≡ shapeOf kind ⌝ }
 {
     if 10 < kind {
@@ -122,7 +123,7 @@ pub fn takes(kind: u16) -> Shape
 }
 
 // A form that was read: where it ends, the count of nodes then, and whether a signal is too large. Or where none can follow.
-pub enum Read {
+enum Read {
     Got {
         next: usize,
         nodes: usize,
@@ -132,7 +133,7 @@ pub enum Read {
 }
 
 // The operands that were read, and what the node's two places hold.
-pub enum Operands {
+enum Operands {
     Got {
         next: usize,
         nodes: usize,
@@ -144,7 +145,7 @@ pub enum Operands {
 }
 
 // `true`, where a Boolean is due.
-pub fn read_true(s: &[u8], at: usize, sort: u16, out: &mut [u16], n: usize) -> Read
+fn read_true(s: &[u8], at: usize, sort: u16, out: &mut [u16], n: usize) -> Read
     requires { ⌜ Fits (now s) at n × (byteAt (now s) at ≡ 40 → ⊥) ⌝ }
     ensures { λ r. ⌜ FormRead sort (now (s .entry)) at n (now (out .entry)) (now (out .exit)) r ⌝ }
 {
@@ -164,7 +165,7 @@ pub fn read_true(s: &[u8], at: usize, sort: u16, out: &mut [u16], n: usize) -> R
 }
 
 // A signal's number.
-pub fn read_signal(s: &[u8], at: usize, n: usize) -> Operands
+fn read_signal(s: &[u8], at: usize, n: usize) -> Operands
     requires { ⌜ Fits (now s) at n ⌝ }
     ensures { λ r. ⌜ ((l : List ℕ) → OperandsRead 1 (now (s .entry)) at n l l r) ⌝ }
 {
@@ -188,7 +189,7 @@ pub fn read_signal(s: &[u8], at: usize, n: usize) -> Operands
 }
 
 // A form of a sort: `true`, or a word and its operands in brackets. Its own node is written when it closes.
-pub fn read_form(s: &[u8], at: usize, sort: u16, out: &mut [u16], n: usize) -> Read
+fn read_form(s: &[u8], at: usize, sort: u16, out: &mut [u16], n: usize) -> Read
     requires { ⌜ Fits (now s) at n ⌝ }
     ensures { λ r. ⌜ FormRead sort (now (s .entry)) at n (now (out .entry)) (now (out .exit)) r ⌝ }
 {
@@ -221,7 +222,7 @@ pub fn read_form(s: &[u8], at: usize, sort: u16, out: &mut [u16], n: usize) -> R
 }
 
 // The operands of a kind: a number, one form, or two.
-pub fn read_operands(s: &[u8], at: usize, kind: u16, out: &mut [u16], n: usize) -> Operands
+fn read_operands(s: &[u8], at: usize, kind: u16, out: &mut [u16], n: usize) -> Operands
     requires { ⌜ Fits (now s) at n × Known kind ⌝ }
     ensures { λ r. ⌜ OperandsRead kind (now (s .entry)) at n (now (out .entry)) (now (out .exit)) r ⌝ }
 {
@@ -268,7 +269,7 @@ pub fn read_operands(s: &[u8], at: usize, kind: u16, out: &mut [u16], n: usize) 
 }
 
 // A formula line, its nodes numbered from 0.
-pub fn read_whole(s: &[u8], out: &mut [u16]) -> Read
+fn read_whole(s: &[u8], out: &mut [u16]) -> Read
     requires { ⌜ length (now s) ≤ mostBytes ⌝ }
     ensures { λ r. ⌜ WholeRead (now (s .entry)) (now (out .entry)) (now (out .exit)) r ⌝ }
 {

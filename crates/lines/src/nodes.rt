@@ -14,13 +14,13 @@ ghost use Rattle.table.specs.Check.{nodeRefusal};
 ghost use Rattle.ltl.specs.Check.{ltlRules};
 ghost use Rattle.lines.specs.Spelling.{digits, ltlWord, ltlPlaces, nodeLine};
 ghost use Rattle.lines.specs.NodeAnswer.{nodeAnswer, nodeList};
-ghost use Rattle.lines.specs.Writer.{Wrote, spaced};
+ghost use Rattle.lines.specs.Inner.Writer.{Wrote, spaced};
 
 // The most nodes of an LTL table.
 const MOST_NODES: u16 = 4096;
 
 // A byte at a place, nothing past the end.
-pub fn put_byte(out: &mut [u8], at: usize, b: u8)
+fn put_byte(out: &mut [u8], at: usize, b: u8)
     ensures { λ _. ⌜ now (out .exit) ≡ set (now (out .entry)) at b ⌝ }
 {
     if at < out.len() {
@@ -29,7 +29,7 @@ pub fn put_byte(out: &mut [u8], at: usize, b: u8)
 }
 
 // Bytes from a place on; the place after them.
-pub fn put_text(out: &mut [u8], at: usize, w: &[u8]) -> usize
+fn put_text(out: &mut [u8], at: usize, w: &[u8]) -> usize
     requires { ⌜ at + length (now w) ≤ 1000000 ⌝ }
     ensures { λ r. ⌜ Wrote (now (w .entry)) (now (out .entry)) (now (out .exit)) at r ⌝ }
 {
@@ -42,7 +42,7 @@ pub fn put_text(out: &mut [u8], at: usize, w: &[u8]) -> usize
 }
 
 // A number in decimal.
-pub fn put_number(out: &mut [u8], at: usize, n: u16) -> usize
+fn put_number(out: &mut [u8], at: usize, n: u16) -> usize
     requires { ⌜ at ≤ 900000 ⌝ }
     ensures { λ r. ⌜ Wrote (digits n) (now (out .entry)) (now (out .exit)) at r ⌝ }
 {
@@ -56,7 +56,7 @@ pub fn put_number(out: &mut [u8], at: usize, n: u16) -> usize
 }
 
 // The word of a kind.
-pub fn put_word(out: &mut [u8], at: usize, kind: u16) -> usize
+fn put_word(out: &mut [u8], at: usize, kind: u16) -> usize
     requires { ⌜ (at ≤ 900000) × (kind < 7) ⌝ }
     ensures { λ r. ⌜ Wrote (ltlWord kind) (now (out .entry)) (now (out .exit)) at r ⌝ }
 {
@@ -72,7 +72,7 @@ pub fn put_word(out: &mut [u8], at: usize, kind: u16) -> usize
 }
 
 // How many of its two places a kind uses.
-pub fn places(kind: u16) -> u16
+fn places(kind: u16) -> u16
     requires { ⌜ kind < 7 ⌝ }
     ensures { λ r. ⌜ r ≡ ltlPlaces kind ⌝ }
 {
@@ -80,7 +80,7 @@ pub fn places(kind: u16) -> u16
 }
 
 // The first n of two numbers, a space before each.
-pub fn put_numbers(out: &mut [u8], at: usize, n: u16, p: u16, q: u16) -> usize
+fn put_numbers(out: &mut [u8], at: usize, n: u16, p: u16, q: u16) -> usize
     requires { ⌜ at ≤ 500000 ⌝ }
     ensures { λ r. ⌜ Wrote (spaced n p q) (now (out .entry)) (now (out .exit)) at r ⌝ }
 {
@@ -97,7 +97,7 @@ pub fn put_numbers(out: &mut [u8], at: usize, n: u16, p: u16, q: u16) -> usize
 }
 
 // A node's line; how many bytes it has.
-pub fn put_line(out: &mut [u8], own: u16, kind: u16, left: u16, right: u16) -> usize
+fn put_line(out: &mut [u8], own: u16, kind: u16, left: u16, right: u16) -> usize
     requires { ⌜ kind < 7 ⌝ }
     ensures { λ r. ⌜ Wrote (nodeLine own (node kind left right)) (now (out .entry)) (now (out .exit)) 0 r ⌝ }
 {

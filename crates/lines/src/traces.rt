@@ -13,16 +13,16 @@ ghost use Prim.Native.Nat.{ℕ, _≤_};
 ghost use lib.ListN.{length, set};
 ghost use Rattle.lines.specs.Limits.{mostBytes};
 ghost use Rattle.lines.specs.TraceAnswer.{TraceAnswer};
-ghost use Rattle.lines.specs.Reader.{Fits};
-ghost use Rattle.lines.specs.LettersReader.{LetterRead, LettersRead, further, listed, Any, Some, ListsRead, finiteRest, lassoRest, wholeLine};
+ghost use Rattle.lines.specs.Inner.Reader.{Fits};
+ghost use Rattle.lines.specs.Inner.LettersReader.{LetterRead, LettersRead, further, listed, Any, Some, ListsRead, finiteRest, lassoRest, wholeLine};
 
 // The largest letter, and the most letters of a trace.
-const LARGEST_LETTER: u64 = 4294967295;
+const LARGEST_LETTER: u64 = u32::MAX as u64;
 
 const MOST_LETTERS: usize = 64;
 
 // A letter at a place, nothing past the end.
-pub fn put_letter(out: &mut [Letter], at: usize, v: Letter)
+fn put_letter(out: &mut [Letter], at: usize, v: Letter)
     ensures { λ _. ⌜ now (out .exit) ≡ set (now (out .entry)) at v ⌝ }
 {
     if at < out.len() {
@@ -31,7 +31,7 @@ pub fn put_letter(out: &mut [Letter], at: usize, v: Letter)
 }
 
 // Letters that were read: where they end, the count of letters then, and whether one is too large. Or where none can follow.
-pub enum Letters {
+enum Letters {
     Got {
         next: usize,
         count: usize,
@@ -41,7 +41,7 @@ pub enum Letters {
 }
 
 // A letter, stored as letter n.
-pub fn read_letter(s: &[u8], at: usize, out: &mut [Letter], n: usize) -> Letters
+fn read_letter(s: &[u8], at: usize, out: &mut [Letter], n: usize) -> Letters
     requires { ⌜ Fits (now s) at n ⌝ }
     ensures { λ r. ⌜ LetterRead (now (s .entry)) at n (now (out .entry)) (now (out .exit)) r ⌝ }
 {
@@ -64,7 +64,7 @@ pub fn read_letter(s: &[u8], at: usize, out: &mut [Letter], n: usize) -> Letters
 }
 
 // Further letters up to the closing bracket, a space before each.
-pub fn read_further(s: &[u8], at: usize, out: &mut [Letter], n: usize) -> Letters
+fn read_further(s: &[u8], at: usize, out: &mut [Letter], n: usize) -> Letters
     requires { ⌜ Fits (now s) at n ⌝ }
     ensures { λ r. ⌜ LettersRead further Any (now (s .entry)) at n (now (out .entry)) (now (out .exit)) r ⌝ }
 {
@@ -98,7 +98,7 @@ pub fn read_further(s: &[u8], at: usize, out: &mut [Letter], n: usize) -> Letter
 }
 
 // The letters of a list after its opening bracket, at least one.
-pub fn read_some(s: &[u8], at: usize, out: &mut [Letter]) -> Letters
+fn read_some(s: &[u8], at: usize, out: &mut [Letter]) -> Letters
     requires { ⌜ Fits (now s) at 0 ⌝ }
     ensures { λ r. ⌜ LettersRead listed Some (now (s .entry)) at 0 (now (out .entry)) (now (out .exit)) r ⌝ }
 {
@@ -120,7 +120,7 @@ pub fn read_some(s: &[u8], at: usize, out: &mut [Letter]) -> Letters
 }
 
 // The same, perhaps none.
-pub fn read_list(s: &[u8], at: usize, out: &mut [Letter]) -> Letters
+fn read_list(s: &[u8], at: usize, out: &mut [Letter]) -> Letters
     requires { ⌜ Fits (now s) at 0 ⌝ }
     ensures { λ r. ⌜ LettersRead listed Any (now (s .entry)) at 0 (now (out .entry)) (now (out .exit)) r ⌝ }
 {
@@ -135,7 +135,7 @@ pub fn read_list(s: &[u8], at: usize, out: &mut [Letter]) -> Letters
 }
 
 // How many letters the two lists have, and whether one is too large. Or where no line can follow.
-pub enum Lists {
+enum Lists {
     Got {
         lead: usize,
         cycle: usize,
@@ -145,7 +145,7 @@ pub enum Lists {
 }
 
 // After `(finite`.
-pub fn read_finite(s: &[u8], at: usize, lead: &mut [Letter]) -> Lists
+fn read_finite(s: &[u8], at: usize, lead: &mut [Letter]) -> Lists
     requires { ⌜ Fits (now s) at 0 ⌝ }
     ensures { λ r. ⌜ ((m : List ℕ) → ListsRead finiteRest (now (s .entry)) at (now (lead .entry)) m (now (lead .exit)) m r) ⌝ }
 {
@@ -165,7 +165,7 @@ pub fn read_finite(s: &[u8], at: usize, lead: &mut [Letter]) -> Lists
 }
 
 // After `(lasso (`.
-pub fn read_lasso(s: &[u8], at: usize, lead: &mut [Letter], cycle: &mut [Letter]) -> Lists
+fn read_lasso(s: &[u8], at: usize, lead: &mut [Letter], cycle: &mut [Letter]) -> Lists
     requires { ⌜ Fits (now s) at 0 ⌝ }
     ensures { λ r. ⌜ ListsRead lassoRest (now (s .entry)) at (now (lead .entry)) (now (cycle .entry)) (now (lead .exit)) (now (cycle .exit)) r ⌝ }
 {
@@ -201,7 +201,7 @@ pub fn read_lasso(s: &[u8], at: usize, lead: &mut [Letter], cycle: &mut [Letter]
 }
 
 // A trace line.
-pub fn read_lists(s: &[u8], lead: &mut [Letter], cycle: &mut [Letter]) -> Lists
+fn read_lists(s: &[u8], lead: &mut [Letter], cycle: &mut [Letter]) -> Lists
     requires { ⌜ length (now s) ≤ mostBytes ⌝ }
     ensures { λ r. ⌜ ListsRead wholeLine (now (s .entry)) 0 (now (lead .entry)) (now (cycle .entry)) (now (lead .exit)) (now (cycle .exit)) r ⌝ }
 {

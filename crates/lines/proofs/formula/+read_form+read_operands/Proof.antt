@@ -6,9 +6,9 @@ use Prim.Native.Nat.{_*_, _-_, _+_}
 use lib.ListN.{length}
 use mathlib.Core.List.{[], _∷_}
 use Rattle.lines.specs.declared.formula.Shape.{Shape}
-use Rattle.lines.specs.Places.{Stands}
-use Rattle.lines.specs.Form.{Form, Sorted, kinds, arity, leftSort, rightSort}
-use Rattle.lines.specs.Reader.{KeywordRead, FormRead, FormStands, OperandsRead}
+use Rattle.lines.specs.Inner.Places.{Stands}
+use Rattle.lines.specs.Inner.Form.{Form, Sorted, kinds, arity, leftSort, rightSort}
+use Rattle.lines.specs.Inner.Reader.{KeywordRead, FormRead, FormStands, OperandsRead}
 use Rattle.lines.proofs.FormLaw.{kind-fact}
 use Rattle.lines.proofs.PlaceLaw.{stands-one}
 use Rattle.lines.proofs.ReaderLaw.{Open, Entered, no-word, no-operands, no-bracket, closes, first-no, one-stands, no-space, second-no, two-stand}

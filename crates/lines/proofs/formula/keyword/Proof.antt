@@ -3,8 +3,8 @@ use borrow.Author.Needs.{needs}
 use mathlib.Core.Path.{sym, subst}
 use mathlib.Core.List.{List}
 use Prim.Native.Nat.{ℕ}
-use Rattle.lines.specs.Form.{kinds}
-use Rattle.lines.specs.Reader.{KeywordRead}
+use Rattle.lines.specs.Inner.Form.{kinds}
+use Rattle.lines.specs.Inner.Reader.{KeywordRead}
 use Rattle.lines.proofs.KeywordLaw.{formula-words}
 use Rattle.lines.proofs.formula.keyword.Statement.{statement}
 use Rattle.lines.proofs.formula.keyword.Tie as tie

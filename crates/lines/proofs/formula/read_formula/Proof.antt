@@ -6,7 +6,7 @@ use mathlib.Core.List.{[], _∷_}
 use Prim.Native.Nat.{_≤_}
 use lib.ListN.{length}
 use Rattle.lines.specs.Limits.{mostBytes}
-use Rattle.lines.specs.Reader.{WholeRead}
+use Rattle.lines.specs.Inner.Reader.{WholeRead}
 use Rattle.lines.proofs.LineLaw.{too-long, no-formula, many-nodes, large-signal, no-room, table-read}
 use Rattle.lines.proofs.formula.read_formula.Statement.{statement}
 use Rattle.lines.proofs.formula.read_formula.Tie as tie

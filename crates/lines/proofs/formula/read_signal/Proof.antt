@@ -2,7 +2,7 @@
 use borrow.Author.Needs.{needs}
 use native.Mathlib.Omega.{arith}
 use mathlib.Core.Path.{subst}
-use Rattle.lines.specs.Scan.{NumberRead}
+use Rattle.lines.specs.Inner.Scan.{NumberRead}
 use Rattle.lines.proofs.ReaderLaw.{signal-no, signal-small, signal-large}
 use Rattle.lines.proofs.formula.read_signal.Statement.{statement}
 use Rattle.lines.proofs.formula.read_signal.Tie as tie

@@ -1,12 +1,11 @@
 -- `true` is due where a Boolean is; a form that opens with a bracket does not stand here.
 use borrow.Author.Needs.{needs}
 use native.Mathlib.Omega.{arith}
-use mathlib.Core.Path.{refl, sym, subst}
-use Prim.Native.Nat.{ℕ, _+_}
-use Rattle.lines.specs.Text.{text}
-use Rattle.lines.specs.Places.{Stops, Stands}
-use Rattle.lines.specs.Form.{truth, Sorted}
-use Rattle.lines.specs.Reader.{FormOf, Fits}
+use mathlib.Core.Path.{sym, subst}
+use Prim.Native.Nat.{ℕ}
+use Rattle.lines.specs.Inner.Places.{Stops}
+use Rattle.lines.specs.Inner.Form.{truth}
+use Rattle.lines.specs.Inner.Reader.{FormOf}
 use Rattle.lines.proofs.ReaderLaw.{true-not-due, true-part, true-stands}
 use Rattle.lines.proofs.formula.read_true.Statement.{statement}
 use Rattle.lines.proofs.formula.read_true.Tie as tie

@@ -3,8 +3,8 @@ use borrow.Author.Needs.{needs}
 use native.Mathlib.Omega.{arith}
 use mathlib.Core.Path.{sym, subst, _∙_}
 use Rattle.lines.specs.Text.{text}
-use Rattle.lines.specs.Places.{Stands}
-use Rattle.lines.specs.Reader.{FormRead}
+use Rattle.lines.specs.Inner.Places.{Stands}
+use Rattle.lines.specs.Inner.Reader.{FormRead}
 use Rattle.lines.proofs.LineLaw.{not-psl, no-form, not-closed, tail-left, line-read}
 use Rattle.lines.proofs.formula.read_whole.Statement.{statement}
 use Rattle.lines.proofs.formula.read_whole.Tie as tie

@@ -3,7 +3,7 @@ use borrow.Author.Needs.{needs}
 use native.Mathlib.Omega.{arith}
 use mathlib.Core.Path.{refl, sym}
 use lib.ListN.{List·getD-eq-default}
-use Rattle.lines.specs.Form.{takes, shapes, shape}
+use Rattle.lines.specs.Inner.Form.{takes, shapes, shape}
 use Rattle.lines.proofs.formula.takes.Statement.{statement}
 use Rattle.lines.proofs.formula.takes.Tie as tie
 

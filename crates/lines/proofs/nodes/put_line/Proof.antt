@@ -3,7 +3,7 @@ use borrow.Author.Needs.{needs}
 use native.Mathlib.Omega.{arith}
 use mathlib.Core.Path.{subst}
 use Prim.Native.Nat.{ℕ}
-use Rattle.lines.specs.Writer.{Wrote, spaced}
+use Rattle.lines.specs.Inner.Writer.{Wrote, spaced}
 use Rattle.lines.proofs.WriterLaw.{number-end, word-end, numbers-end, line-wrote}
 use Rattle.lines.proofs.nodes.put_line.Statement.{statement}
 use Rattle.lines.proofs.nodes.put_line.Tie as tie

@@ -1,10 +1,9 @@
 -- Each kind writes its word.
 use borrow.Author.Needs.{needs}
-use native.Mathlib.Omega.{arith}
-use mathlib.Core.Path.{_≡_, sym, subst}
+use mathlib.Core.Path.{sym, subst}
 use Prim.Native.Nat.{ℕ}
 use Rattle.lines.specs.Spelling.{ltlWord}
-use Rattle.lines.specs.Writer.{Wrote}
+use Rattle.lines.specs.Inner.Writer.{Wrote}
 use Rattle.lines.proofs.WriterLaw.{last-kind}
 use Rattle.lines.proofs.nodes.put_word.Statement.{statement}
 use Rattle.lines.proofs.nodes.put_word.Tie as tie

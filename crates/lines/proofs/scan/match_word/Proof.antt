@@ -1,11 +1,10 @@
 -- The loop keeps: the first i bytes of the word stand.
 use borrow.Author.Needs.{needs}
 use native.Mathlib.Omega.{arith}
-use native.Mathlib.Nat.{add-zero}
-use mathlib.Core.Path.{ap, sym, refl, _∙_}
-use Prim.Native.Nat.{ℕ, _+_, _-_, _<_, _≤_}
-use lib.ListN.{length, take, drop}
-use Rattle.lines.specs.Places.{Stands}
+use mathlib.Core.Path.{sym, _∙_}
+use Prim.Native.Nat.{_+_, _-_, _<_, _≤_}
+use lib.ListN.{length, take}
+use Rattle.lines.specs.Inner.Places.{Stands}
 use Rattle.lines.proofs.ScanLaw.{word-none, word-more, word-part, word-whole}
 use Rattle.lines.proofs.scan.match_word.Statement.{statement}
 use Rattle.lines.proofs.scan.match_word.Tie as tie

@@ -5,8 +5,8 @@ use mathlib.Core.Path.{refl, subst}
 use mathlib.Core.List.{[], _∷_}
 use Prim.Native.Nat.{ℕ, _+_, _*_, _-_}
 use lib.ListN.{length}
-use Rattle.lines.specs.Places.{Stands}
-use Rattle.lines.specs.Scan.{Counts}
+use Rattle.lines.specs.Inner.Places.{Stands}
+use Rattle.lines.specs.Inner.Scan.{Counts}
 use Rattle.lines.proofs.ScanLaw.{number-none, number-zeros, number-zero, SoFar, so-far-one, so-far-more, number-small, number-large}
 use Rattle.lines.proofs.scan.read_number.Statement.{statement}
 use Rattle.lines.proofs.scan.read_number.Tie as tie

@@ -1,7 +1,7 @@
 -- Letters, and the end.
 use borrow.Author.Needs.{needs}
 use mathlib.Core.Path.{subst}
-use Rattle.lines.specs.LettersReader.{LettersRead, further, Any}
+use Rattle.lines.specs.Inner.LettersReader.{LettersRead, further, Any}
 use Rattle.lines.proofs.TraceLaw.{finite-no, finite-tail, finite-read}
 use Rattle.lines.proofs.traces.read_finite.Statement.{statement}
 use Rattle.lines.proofs.traces.read_finite.Tie as tie

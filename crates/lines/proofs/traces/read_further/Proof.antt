@@ -4,7 +4,7 @@ use native.Mathlib.Omega.{arith}
 use mathlib.Core.Path.{_≡_, refl, sym, subst, _∙_}
 use Prim.Native.Nat.{_+_, _-_}
 use lib.ListN.{length}
-use Rattle.lines.specs.LettersReader.{LetterRead}
+use Rattle.lines.specs.Inner.LettersReader.{LetterRead}
 use Rattle.lines.proofs.PlaceLaw.{stands-one}
 use Rattle.lines.proofs.LettersLaw.{SoFar, none-yet, one-more, no-letter, no-end, letters-end}
 use Rattle.lines.proofs.traces.read_further.Statement.{statement}

@@ -2,7 +2,7 @@
 use borrow.Author.Needs.{needs}
 use native.Mathlib.Omega.{arith}
 use mathlib.Core.Path.{sym, subst, _∙_}
-use Rattle.lines.specs.LettersReader.{LettersRead, listed, Any, Some}
+use Rattle.lines.specs.Inner.LettersReader.{LettersRead, listed, Any, Some}
 use Rattle.lines.proofs.TraceLaw.{lead-no, no-loop, loop-no, lasso-open, lasso-tail, lasso-read}
 use Rattle.lines.proofs.traces.read_lasso.Statement.{statement}
 use Rattle.lines.proofs.traces.read_lasso.Tie as tie

@@ -2,7 +2,7 @@
 use borrow.Author.Needs.{needs}
 use native.Mathlib.Omega.{arith}
 use mathlib.Core.Path.{subst}
-use Rattle.lines.specs.Scan.{NumberRead}
+use Rattle.lines.specs.Inner.Scan.{NumberRead}
 use Rattle.lines.proofs.LettersLaw.{letter-small, letter-large}
 use Rattle.lines.proofs.traces.read_letter.Statement.{statement}
 use Rattle.lines.proofs.traces.read_letter.Tie as tie

@@ -4,8 +4,8 @@ use native.Mathlib.Omega.{arith}
 use mathlib.Core.Path.{subst}
 use Prim.Native.Nat.{ℕ}
 use Rattle.lines.specs.Text.{text}
-use Rattle.lines.specs.Places.{Stands}
-use Rattle.lines.specs.LettersReader.{ListsRead, finiteRest, lassoRest}
+use Rattle.lines.specs.Inner.Places.{Stands}
+use Rattle.lines.specs.Inner.LettersReader.{ListsRead, finiteRest, lassoRest}
 use Rattle.lines.proofs.TraceLaw.{finite-line, lasso-line, neither-far, neither-near}
 use Rattle.lines.proofs.traces.read_lists.Statement.{statement}
 use Rattle.lines.proofs.traces.read_lists.Tie as tie

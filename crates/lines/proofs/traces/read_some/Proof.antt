@@ -2,7 +2,7 @@
 use borrow.Author.Needs.{needs}
 use native.Mathlib.Omega.{arith}
 use mathlib.Core.Path.{subst}
-use Rattle.lines.specs.LettersReader.{LetterRead, LettersRead, further, Any}
+use Rattle.lines.specs.Inner.LettersReader.{LetterRead, LettersRead, further, Any}
 use Rattle.lines.proofs.LettersLaw.{no-first, first-then-no, first-then}
 use Rattle.lines.proofs.traces.read_some.Statement.{statement}
 use Rattle.lines.proofs.traces.read_some.Tie as tie

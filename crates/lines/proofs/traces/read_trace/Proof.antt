@@ -6,7 +6,7 @@ use mathlib.Core.List.{[], _∷_}
 use Prim.Native.Nat.{_≤_}
 use lib.ListN.{length}
 use Rattle.lines.specs.Limits.{mostBytes}
-use Rattle.lines.specs.LettersReader.{ListsRead, wholeLine}
+use Rattle.lines.specs.Inner.LettersReader.{ListsRead, wholeLine}
 use Rattle.lines.proofs.TraceLaw.{too-long, no-trace, large-letter, many-letters, no-room-lead, no-room-loop, letters-read}
 use Rattle.lines.proofs.traces.read_trace.Statement.{statement}
 use Rattle.lines.proofs.traces.read_trace.Tie as tie

@@ -1,12 +1,12 @@
 -- What the readers of digits, numbers and words promise.
 use mathlib.Core.Path.{_≡_}
 use mathlib.Core.Bool.{Bool, true, false}
-use mathlib.Core.List.{List, [], _∷_, _++_}
+use mathlib.Core.List.{List, [], _∷_}
 use Prim.Native.Nat.{ℕ, _+_, _≤_, _<_}
 use lib.ListN.{length, drop}
 use Rattle.lines.specs.Spelling.{digits}
-use Rattle.lines.specs.Places.{Stands, Halts, Stops}
-use Rattle.lines.specs.Number.{NoDigit, Numeral, Numbered}
+use Rattle.lines.specs.Inner.Places.{Stands, Halts, Stops}
+use Rattle.lines.specs.Inner.Number.{NoDigit, Numeral, Numbered}
 use Rattle.lines.specs.declared.scan.Number.{Number}
 use Rattle.lines.specs.declared.scan.Number.the-variants.{Small, Large, No}
 

@@ -1,9 +1,9 @@
 -- Forms of either sort as the reader meets them: `true`, `(var K)`, or the word of a kind with one or two operands.
 use mathlib.Core.Path.{_≡_}
-use mathlib.Core.Bool.{Bool, true, false, _||_}
+use mathlib.Core.Bool.{Bool, false, _||_}
 use mathlib.Core.List.{List, [], _∷_, _++_}
 use Prim.Native.Nat.{ℕ, zero, suc}
-use lib.ListN.{length, getD}
+use lib.ListN.{getD}
 use lib.Dec.{T, eqb, leb}
 use Rattle.trace.specs.Letter.{signals}
 use Rattle.table.specs.Node.{Node, node, _▸_, last}
@@ -95,16 +95,16 @@ OfKind k (two j f g) = (k ≡ j) × (arity k ≡ 2) × Sorted (leftSort k) f × 
 
 unfoldable pub bytes : Form → List ℕ
 bytes truth = text "true"
-bytes (signal n) = 40 ∷ (word 1 ++ (digits n ++ (41 ∷ [])))
-bytes (one k f) = 40 ∷ (word k ++ (bytes f ++ (41 ∷ [])))
-bytes (two k f g) = 40 ∷ (word k ++ (bytes f ++ (32 ∷ (bytes g ++ (41 ∷ [])))))
+bytes (signal n) = text "(" ++ (word 1 ++ (digits n ++ text ")"))
+bytes (one k f) = text "(" ++ (word k ++ (bytes f ++ text ")"))
+bytes (two k f g) = text "(" ++ (word k ++ (bytes f ++ (text " " ++ (bytes g ++ text ")"))))
 
 -- What stands between the word and the closing bracket.
 abbrev pub inner : Form → List ℕ
 inner truth = []
 inner (signal n) = digits n
 inner (one k f) = bytes f
-inner (two k f g) = bytes f ++ (32 ∷ bytes g)
+inner (two k f g) = bytes f ++ (text " " ++ bytes g)
 
 -- ── Their nodes ──
 

@@ -1,7 +1,7 @@
 -- Places in a line of bytes, counted from 0: what stands there, and where nothing of a kind can stand any more. The inner readers promise
 -- their results in these terms.
 use mathlib.Core.Path.{_≡_}
-use mathlib.Core.List.{List, [], _∷_, _++_}
+use mathlib.Core.List.{List, _++_}
 use Prim.Native.Nat.{ℕ, suc, _≤_}
 use lib.ListN.{length, getD, take, drop}
 

@@ -2,16 +2,16 @@
 use mathlib.Core.Path.{_≡_}
 use mathlib.Core.Bool.{Bool, false, _||_}
 use mathlib.Core.List.{List, [], _∷_, _++_, map}
-use Prim.Native.Nat.{ℕ, _+_, _^_, _≤_, _<_}
+use Prim.Native.Nat.{ℕ, _+_, _^_, _≤_}
 use lib.ListN.{length, set, drop}
 use lib.Seq.{sets}
 use lib.Dec.{leb}
 use Rattle.trace.specs.Letter.{signals}
 use Rattle.lines.specs.Text.{text}
 use Rattle.lines.specs.Spelling.{digits, ending, inside, traceLine}
-use Rattle.lines.specs.Places.{Language, Stands, Halts, Stops, StopsLine}
-use Rattle.lines.specs.Number.{Numeral, Numbered}
-use Rattle.lines.specs.Scan.{NumberStands}
+use Rattle.lines.specs.Inner.Places.{Language, Stands, Halts, Stops, StopsLine}
+use Rattle.lines.specs.Inner.Number.{Numeral, Numbered}
+use Rattle.lines.specs.Inner.Scan.{NumberStands}
 use Rattle.lines.specs.TraceAnswer.{largeLetter}
 use Rattle.lines.specs.declared.traces.Letters.{Letters}
 use Rattle.lines.specs.declared.traces.Letters.the-variants as Letters

@@ -9,13 +9,14 @@ use lib.Seq.{sets}
 use lib.Dec.{T}
 use Rattle.table.specs.Node.{Node, numbersOf}
 use Rattle.psl.specs.Formula.{Formula}
+use Rattle.lines.specs.Text.{text}
 use Rattle.lines.specs.Spelling.{formulaLine}
 use Rattle.lines.specs.Closing.{table}
 use Rattle.lines.specs.Limits.{mostBytes}
 use Rattle.lines.specs.FormulaAnswer.{largeSignal}
-use Rattle.lines.specs.Places.{Language, Begins, Stands, Halts, Stops, StopsLine}
-use Rattle.lines.specs.Number.{NoDigit}
-use Rattle.lines.specs.Form.{Form, truth, signal, one, two, word, kinds, elem, Sorted, OfKind, bytes, inner, closed, wide}
+use Rattle.lines.specs.Inner.Places.{Language, Begins, Stands, Halts, Stops, StopsLine}
+use Rattle.lines.specs.Inner.Number.{NoDigit}
+use Rattle.lines.specs.Inner.Form.{Form, truth, signal, one, two, word, kinds, elem, Sorted, OfKind, bytes, inner, closed, wide}
 use Rattle.lines.specs.declared.formula.Word.{Word}
 use Rattle.lines.specs.declared.formula.Word.the-variants as Word
 use Rattle.lines.specs.declared.formula.Read.{Read}
@@ -50,7 +51,7 @@ FormOf so w = (f : Form) × Sorted so f × (w ≡ bytes f)
 
 -- The operands of a kind, with the closing bracket.
 abbrev pub OperandsOf : ℕ → Language
-OperandsOf k w = (f : Form) × OfKind k f × (w ≡ inner f ++ (41 ∷ []))
+OperandsOf k w = (f : Form) × OfKind k f × (w ≡ inner f ++ text ")")
 
 -- A list whose front holds the numbers of some nodes.
 abbrev pub filled : List ℕ → List Node → List ℕ

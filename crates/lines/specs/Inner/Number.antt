@@ -3,7 +3,7 @@ use mathlib.Core.Path.{_≡_}
 use mathlib.Core.List.{List, [], _∷_, _++_}
 use Prim.Native.Nat.{ℕ, _≤_}
 use Rattle.lines.specs.Spelling.{digits}
-use Rattle.lines.specs.Places.{Language}
+use Rattle.lines.specs.Inner.Places.{Language}
 
 abbrev pub IsDigit : ℕ → Type 0
 IsDigit b = (48 ≤ b) × (b ≤ 57)
