@@ -6,11 +6,11 @@ use Rattle.table.proofs.place_fits.Tie as tie
 bound-requires : tie.Need-bound-requires
 bound-requires c κs = search needs
 
-sort-fits-requires : tie.Need-sort-fits-requires
-sort-fits-requires c κs = search needs
+sort-at-requires : tie.Need-sort-at-requires
+sort-at-requires c κs = search needs
 
 returns : tie.Need-returns
-returns c = rw (c .before .bound .ensures, c .sort-fits .ensures)
+returns c = rw (c .before .bound .ensures, c .sort-at .ensures)
 
 pub place-fits-spec : {M : Type 1} → statement M
-place-fits-spec = tie.close (tie.spec bound-requires sort-fits-requires returns)
+place-fits-spec = tie.close (tie.spec bound-requires sort-at-requires returns)
