@@ -1,6 +1,6 @@
 -- Laws of the check that both tables share: when a node is refused, which refusal decides, and what a table that is not refused is like.
 use mathlib.Core.Path.{_≡_, refl, sym, ap, _∙_, subst}
-use mathlib.Core.Bool.{Bool, true, false, not, cond, _&&_, _||_, Bool·beq}
+use mathlib.Core.Bool.{Bool, true, false, not, cond, _&&_, _||_, and-true, Bool·beq}
 use mathlib.Core.Option.{Option, none, some}
 use mathlib.Core.List.{List}
 use Prim.Native.Nat.{ℕ, zero, suc, _+_, _*_, _/_, _%_, _≤_, _<_}
@@ -93,16 +93,20 @@ sort-is true false true e d = e
 sort-is true false false e d = refl
 sort-is false b m e d = absurd (not-both true refl (sym d))
 
--- The sort as the code tests it: by no kind where there are no Booleans, by another kind where the place names no node.
-pub no-booleans : (p : Place) (k m : ℕ) → m ≡ 0 → sortFits p false ≡ sortFits p (ltb k m)
-no-booleans p k m e = rw (e, le-ltb k 0 (omega arith))
+-- All tests as the code makes them: by no kind where there are no Booleans, by the limit alone where there is no operand.
+pub no-booleans : (p : Place) (n i k m : ℕ) → m ≡ 0 → allFit p n i false ≡ allFit p n i (ltb k m)
+no-booleans p n i k m e = rw (e, le-ltb k 0 (omega arith))
 
-pub other-kind : (p : Place) (f : ℕ → Bool) (n : ℕ) → sortFits p (f (cond (p .operand) n 0)) ≡ sortFits p (f n)
-other-kind p f n = go (p .operand)
-  where
-    go : (o : Bool) → not o || Bool·beq (f (cond o n 0)) (p .boolean) ≡ not o || Bool·beq (f n) (p .boolean)
-    go true = refl
-    go false = refl
+module _ (p : Place) (n i : ℕ) (b : Bool) where
+  pub no-operand : p .operand ≡ false → ltb n (p .limit) ≡ allFit p n i b
+  no-operand e = rw e (sym (and-true (ltb n (p .limit))))
+
+  module _ (e : p .operand ≡ true) where
+    pub not-below : i ≤ n → false ≡ allFit p n i b
+    not-below h = rw (e, le-ltb n i h)
+
+    pub below-user : n < i → Bool·beq b (p .boolean) ≡ allFit p n i b
+    below-user h = rw (e, lt-ltb n i h)
 
 pub fit-sort : {p : Place} {n i : ℕ} {b : Bool} → Fits p n i b → p .operand ≡ true → b ≡ p .boolean
 fit-sort {p} {n} {i} {b} f d = sort-is (p .operand) b (p .boolean) (f .sort) d

@@ -127,29 +127,20 @@ fn kind_at(t: &[u16], n: u16) -> u16
     if at < t.len() { t[at] } else { 0 }
 }
 
-// The node that a place names, node 0 if none.
-fn named(p: Place, n: u16) -> u16
-    ensures { λ r. ⌜ r ≡ cond (p .operand) n 0 ⌝ }
-{
-    if p.operand { n } else { 0 }
-}
-
-// The test of the sort, by the operand's kind. No kind is read where a table has no Booleans; a place without operand reads the kind of node 0, which costs
-// less than a branch on the place.
-fn sort_at(p: Place, t: &[u16], n: u16, booleans: u16) -> bool
-    ensures { λ r. ⌜ r ≡ sortFits p (ltb (kindAt (now (t .entry)) n) booleans) ⌝ }
-{
-    if booleans == 0 {
-        return sort_fits(p, false);
-    }
-    sort_fits(p, kind_at(t, named(p, n)) < booleans)
-}
-
-// All four tests at once, and for both places.
+// All four tests at once, and for both places. A kind is read only where an operand can be of the wrong sort; without Booleans there is no branch.
 fn place_fits(p: Place, n: u16, i: u16, t: &[u16], booleans: u16) -> bool
     ensures { λ r. ⌜ r ≡ allFit p n i (ltb (kindAt (now (t .entry)) n) booleans) ⌝ }
 {
-    (n < bound(p, i)) & sort_at(p, t, n, booleans)
+    if booleans == 0 {
+        return (n < bound(p, i)) & sort_fits(p, false);
+    }
+    if !p.operand {
+        return n < p.limit;
+    }
+    if i <= n {
+        return false;
+    }
+    (kind_at(t, n) < booleans) == p.boolean
 }
 
 fn places_fit(h: Shape, i: u16, l: u16, r: u16, t: &[u16], booleans: u16) -> bool
