@@ -11,14 +11,12 @@ use lib.Dec.{eqb, leb}
 use lib.ListN.{length, getD, set, length-set, replicate, length-replicate, getD-replicate}
 use lib.Seq.{getD-set-same, getD-set-other}
 use borrow.Author.Tests.{eq-eqb, ne-eqb, eqb-true, leb-true, not-true}
-use Rattle.trace.specs.Letter.{signals}
 use Rattle.trace.specs.declared.Refusal.{Refusal}
 use Rattle.table.specs.declared.Place.{Place}
 use Rattle.table.specs.Answer.{refused}
 use Rattle.table.specs.Node.{count, kindAt, leftAt, rightAt}
 use Rattle.table.specs.Check.{shapeOf, isBoolean, lowest, tableRefusal, total}
 use Rattle.table.proofs.CheckLaw.{both-true, unless-none, or-none, Sound, known-kind, table-sized, table-sound, lowest-some, none-below}
-use Rattle.table.proofs.KindLaw.{every}
 use Rattle.psl.specs.Check.{pslRules, one, names, namesAt, uses, useRefusal, rootRefusal, treeRefusal, pslRefusal}
 use Rattle.psl.specs.Counts.{Tallied}
 
@@ -47,39 +45,37 @@ unfolding total
 uses-low t j zero = omega arith
 uses-low t j (suc i) = omega (arith, uses-low t j i, names-low t j i)
 
--- A place that holds n is counted.
-add-use : (p : Place) (n a : ℕ) (u : ℕ → ℕ) (c : List ℕ) → n < length c → a ≡ one (p .operand)
-    → ((j : ℕ) → j < length c → getD c j 0 ≡ u j) → (j : ℕ) → j < length c → getD (set c n (getD c n 0 + a)) j 0 ≡ u j + names p n j
-add-use p n a u c h e T j l =
-    elim (ℕ-discrete n j) [
+-- A place that holds n is counted, at m.
+add-use : (p : Place) (n i m a : ℕ) (u : ℕ → ℕ) (c : List ℕ) → m < length c → m ≡ cond (p .operand) n i → a ≡ one (p .operand)
+    → ((j : ℕ) → j < length c → getD c j 0 ≡ u j) → (j : ℕ) → j < length c → getD (set c m (getD c m 0 + a)) j 0 ≡ u j + names p n j
+add-use p n i m a u c h z e T j l =
+    elim (ℕ-discrete m j) [
       | yes d ↦
-          subst (λ (m : ℕ). getD (set c n (getD c n 0 + a)) m 0 ≡ u m + names p n m) d
-          (getD-set-same c n (getD c n 0 + a) 0 h ∙ omega (arith, e, T n h, names-same (p .operand) n))
-      | no d ↦ getD-set-other c n j (getD c n 0 + a) 0 (λ q. d (sym q)) ∙ omega (arith, T j l, names-other (p .operand) n j d)
+          subst (λ (k : ℕ). getD (set c m (getD c m 0 + a)) k 0 ≡ u k + names p n k) d
+          (getD-set-same c m (getD c m 0 + a) 0 h ∙ omega (arith, e, T m h, names-here (p .operand) n i m z))
+      | no d ↦ getD-set-other c m j (getD c m 0 + a) 0 (λ q. d (sym q)) ∙ omega (arith, T j l, names-there (p .operand) n i m j z d)
     ]
+  where
+    names-here : (o : Bool) (n i m : ℕ) → m ≡ cond o n i → one (o && eqb n m) ≡ one o
+    names-here true n i m z = ap one (eq-eqb n m (sym z))
+    names-here false n i m z = refl
 
--- Every place's number is an index of the counts.
-limits : (k : ℕ) → k < 11 → (shapeOf pslRules k .0 .limit ≤ signals) × (shapeOf pslRules k .1 .limit ≤ signals)
-limits k h =
-    let l = shapeOf pslRules k .0 .limit in
-    let r = shapeOf pslRules k .1 .limit in
-    let b =
-    both-true (leb l signals) (leb r signals)
-    (every (λ k. leb (shapeOf pslRules k .0 .limit) signals && leb (shapeOf pslRules k .1 .limit) signals) 11 refl k h) in
-    (leb-true l signals (b .0), leb-true r signals (b .1))
+    names-there : (o : Bool) (n i m j : ℕ) → m ≡ cond o n i → (m ≡ j → ⊥) → one (o && eqb n j) ≡ 0
+    names-there true n i m j z d = ap one (ne-eqb n j (λ q. d (z ∙ q)))
+    names-there false n i m j z d = refl
 
-place-low : (o : Bool) (m n i z : ℕ) → n < cond o i m → i < z → m ≤ z → n < z
-place-low true m n i z h a b = omega arith
-place-low false m n i z h a b = omega arith
+-- What is counted is a node.
+place-low : (o : Bool) (m n i : ℕ) → n < cond o i m → cond o n i ≤ i
+place-low true m n i h = omega arith
+place-low false m n i h = omega arith
 
 -- Cleared counts, before the first node.
-pub untallied : (t : List ℕ) (n : ℕ) → tableRefusal pslRules t ≡ none → count t ≤ n → signals ≤ n → Tallied t 0 (replicate n 0)
+pub untallied : (t : List ℕ) (n : ℕ) → tableRefusal pslRules t ≡ none → count t ≤ n → Tallied t 0 (replicate n 0)
 unfolding total
-untallied t n e h l =
+untallied t n e h =
     record {
       table = e;
       for-nodes = simp length-replicate h;
-      for-signals = simp length-replicate l;
       counts = λ j g. getD-replicate n j 0 0 (simp length-replicate at g);
     }
 
@@ -91,50 +87,57 @@ module _ {t : List ℕ} {i : ℕ} {c : List ℕ} (T : Tallied t i c) (h : i < co
   pub kind-low : kindAt t i < 11
   kind-low = known-kind pslRules (kindAt t i) (sound .kind)
 
-  pub left-low : leftAt t i < length c
-  left-low =
-      let p = shapeOf pslRules (kindAt t i) .0 in
-      place-low (p .operand) (p .limit) (leftAt t i) i (length c) (sound .left .low) (omega (arith, T .for-nodes)) (omega (arith, T .for-signals, limits (kindAt t i) kind-low .0))
+  -- The counts that the left and the right place add to.
+  abbrev pub Left : ℕ → Type 0
+  Left l = l ≡ cond (shapeOf pslRules (kindAt t i) .0 .operand) (leftAt t i) i
 
-  pub right-low : rightAt t i < length c
-  right-low =
+  abbrev pub Right : ℕ → Type 0
+  Right r = r ≡ cond (shapeOf pslRules (kindAt t i) .1 .operand) (rightAt t i) i
+
+  pub left-low : (l : ℕ) → Left l → l < length c
+  left-low l e =
+      let p = shapeOf pslRules (kindAt t i) .0 in
+      omega (arith, e, T .for-nodes, place-low (p .operand) (p .limit) (leftAt t i) i (sound .left .low))
+
+  pub right-low : (r : ℕ) → Right r → r < length c
+  right-low r e =
       let q = shapeOf pslRules (kindAt t i) .1 in
-      place-low (q .operand) (q .limit) (rightAt t i) i (length c) (sound .right .low) (omega (arith, T .for-nodes)) (omega (arith, T .for-signals, limits (kindAt t i) kind-low .1))
+      omega (arith, e, T .for-nodes, place-low (q .operand) (q .limit) (rightAt t i) i (sound .right .low))
 
   few : i < 1024
   few = omega (arith, table-sized pslRules t (T .table) .low)
 
-  pub left-count : getD c (leftAt t i) 0 + one (shapeOf pslRules (kindAt t i) .0 .operand) < 65536
-  left-count = omega (arith, few, T .counts (leftAt t i) left-low, uses-low t (leftAt t i) i, one-low (shapeOf pslRules (kindAt t i) .0 .operand))
+  module _ (l : ℕ) (el : Left l) where
+    pub left-count : getD c l 0 + one (shapeOf pslRules (kindAt t i) .0 .operand) < 65536
+    left-count = omega (arith, few, T .counts l (left-low l el), uses-low t l i, one-low (shapeOf pslRules (kindAt t i) .0 .operand))
 
-  module _ (a : ℕ) (ea : a ≡ one (shapeOf pslRules (kindAt t i) .0 .operand)) where
-    abbrev d : List ℕ
-    d = set c (leftAt t i) (getD c (leftAt t i) 0 + a)
+    module _ (a : ℕ) (ea : a ≡ one (shapeOf pslRules (kindAt t i) .0 .operand)) (r : ℕ) (er : Right r) where
+      abbrev d : List ℕ
+      d = set c l (getD c l 0 + a)
 
-    half : (j : ℕ) → j < length c → getD d j 0 ≡ total (namesAt t j) i + names (shapeOf pslRules (kindAt t i) .0) (leftAt t i) j
-    half = add-use (shapeOf pslRules (kindAt t i) .0) (leftAt t i) a (λ j. total (namesAt t j) i) c left-low ea (T .counts)
+      half : (j : ℕ) → j < length c → getD d j 0 ≡ total (namesAt t j) i + names (shapeOf pslRules (kindAt t i) .0) (leftAt t i) j
+      half = add-use (shapeOf pslRules (kindAt t i) .0) (leftAt t i) i l a (λ j. total (namesAt t j) i) c (left-low l el) el ea (T .counts)
 
-    pub right-in : rightAt t i < length d
-    right-in = simp length-set right-low
+      pub right-in : r < length d
+      right-in = simp length-set (right-low r er)
 
-    pub right-count : getD d (rightAt t i) 0 + one (shapeOf pslRules (kindAt t i) .1 .operand) < 65536
-    right-count =
-        let h = shapeOf pslRules (kindAt t i) in
-        omega (arith, few, half (rightAt t i) right-low, uses-low t (rightAt t i) i, one-low (h .0 .operand && eqb (leftAt t i) (rightAt t i)), one-low (h .1 .operand))
+      pub right-count : getD d r 0 + one (shapeOf pslRules (kindAt t i) .1 .operand) < 65536
+      right-count =
+          let h = shapeOf pslRules (kindAt t i) in
+          omega (arith, few, half r (right-low r er), uses-low t r i, one-low (h .0 .operand && eqb (leftAt t i) r), one-low (h .1 .operand))
 
-    pub tallied-next : (b : ℕ) → b ≡ one (shapeOf pslRules (kindAt t i) .1 .operand) → Tallied t (i + 1) (set d (rightAt t i) (getD d (rightAt t i) 0 + b))
-    unfolding total namesAt
-    tallied-next b eb =
-        let q = shapeOf pslRules (kindAt t i) .1 in
-        let z : length (set d (rightAt t i) (getD d (rightAt t i) 0 + b)) ≡ length c = simp length-set in
-        record {
-          table = T .table;
-          for-nodes = omega (arith, z, T .for-nodes);
-          for-signals = omega (arith, z, T .for-signals);
-          counts = λ j l.
-              rw (add-one i)
-              (add-use q (rightAt t i) b _ d right-in eb (λ j l. half j (simp length-set at l)) j (simp length-set (omega arith)) ∙ omega arith);
-        }
+      pub tallied-next : (b : ℕ) → b ≡ one (shapeOf pslRules (kindAt t i) .1 .operand) → Tallied t (i + 1) (set d r (getD d r 0 + b))
+      unfolding total namesAt
+      tallied-next b eb =
+          let q = shapeOf pslRules (kindAt t i) .1 in
+          let z : length (set d r (getD d r 0 + b)) ≡ length c = simp length-set in
+          record {
+            table = T .table;
+            for-nodes = omega (arith, z, T .for-nodes);
+            counts = λ j l.
+                rw (add-one i)
+                (add-use q (rightAt t i) i r b _ d right-in er eb (λ j l. half j (simp length-set at l)) j (simp length-set (omega arith)) ∙ omega arith);
+          }
 
 -- ── The refusals after the nodes ──
 

@@ -10,6 +10,7 @@ use table::Shape;
 use table::UNUSED;
 use trace::Refusal;
 ghost use mathlib.Core.Path.{_≡_};
+ghost use mathlib.Core.Bool.{cond};
 ghost use mathlib.Core.Option.{none};
 ghost use Rattle.table.specs.Answer.{checked};
 ghost use Rattle.table.specs.Node.{count};
@@ -52,7 +53,15 @@ fn operands(p: Place) -> u16
     p.operand as u16
 }
 
-// How often each node is an operand, counted from nothing. A place that is no operand's adds 0 wherever it points.
+// The count that a place of node i adds to: its operand's, or i's own where it has none and adds nothing. (Any count would do there, but if it were one
+// and the same, each node would wait for the node before.)
+fn counted(p: Place, n: u16, i: usize) -> usize
+    ensures { λ r. ⌜ r ≡ cond (p .operand) n i ⌝ }
+{
+    if p.operand { n as usize } else { i }
+}
+
+// How often each node is an operand, counted from nothing.
 fn count_uses(t: &[u16], c: &mut [u16])
     requires { ⌜ Tallied (now t) 0 (now c) ⌝ }
     ensures { λ _. ⌜ Tallied (now (t .entry)) (count (now (t .entry))) (now (c .exit)) ⌝ }
@@ -62,11 +71,11 @@ fn count_uses(t: &[u16], c: &mut [u16])
     let mut i: usize = 0;
     while i < n {
         let k = t[3 * i] as usize;
-        let l = t[3 * i + 1] as usize;
-        let r = t[3 * i + 2] as usize;
         let h = rules.shapes[k];
         let p = h.0;
         let q = h.1;
+        let l = counted(p, t[3 * i + 1], i);
+        let r = counted(q, t[3 * i + 2], i);
         c[l] += operands(p);
         c[r] += operands(q);
         i += 1;

@@ -8,7 +8,7 @@ use Rattle.table.specs.Node.{count, kindAt}
 use Rattle.table.specs.Check.{shapeOf}
 use Rattle.psl.specs.Check.{pslRules, one}
 use Rattle.psl.specs.Counts.{Tallied}
-use Rattle.psl.proofs.CheckLaw.{kind-low, left-low, right-low, left-count, right-in, right-count, tallied-next}
+use Rattle.psl.proofs.CheckLaw.{kind-low, Left, Right, left-low, right-low, left-count, right-in, right-count, tallied-next}
 use Rattle.psl.proofs.count_uses.Statement.{statement}
 use Rattle.psl.proofs.count_uses.Tie as tie
 
@@ -28,17 +28,22 @@ inside u = omega arith
 tally-fits : (u : tie.In-loop Inv-loop μ-loop) → length (u .before .loop .c) * 2 < 2 ^ 63
 tally-fits u = let st = u .before .before .before .before in omega (arith, st .good .1 .0 .1, u .before .loop .inv .1)
 
--- After the left place was counted.
+-- The turn in which the left, then the right place is counted, and the counts that they add to.
 abbrev left-turn : tie.After-slice-known2 Inv-loop μ-loop → tie.In-loop Inv-loop μ-loop
-left-turn c = c .before .before .before .before .before .before .before .before
+left-turn c = c .before .before .before .before .before .before .before .before .before .before
 
 abbrev right-turn : tie.After-slice-known3 Inv-loop μ-loop → tie.In-loop Inv-loop μ-loop
-right-turn c = c .before .before .before .before .before .before .before .before .before .before
+right-turn c = left-turn (c .before .before)
 
-left-is : (c : tie.After-slice-known3 Inv-loop μ-loop)
-    → let lp = right-turn c .before in
-    c .before .before .before .operands .result ≡ one (shapeOf pslRules (kindAt (lp .before .before .before .args .t .now) (lp .loop .i)) .0 .operand)
-left-is c = c .before .before .before .operands .ensures
+left-at : (c : tie.After-operands Inv-loop μ-loop)
+    → let u = c .before .before .before .before .before .before .before .before .before in
+    Left (tally u) (inside u) (c .before .before .before .counted .result)
+left-at c = c .before .before .before .counted .ensures
+
+right-at : (c : tie.After-operands Inv-loop μ-loop)
+    → let u = c .before .before .before .before .before .before .before .before .before in
+    Right (tally u) (inside u) (c .before .counted2 .result)
+right-at c = c .before .counted2 .ensures
 
 loop-holds : tie.Need-loop-holds Inv-loop μ-loop
 loop-holds c = (omega arith, refl, c .before .before .pre)
@@ -55,71 +60,71 @@ shared-slice-read-k c = search needs
 cast-k : tie.Need-cast-k Inv-loop μ-loop
 cast-k c = let u = c .before in omega (arith, kind-low (tally u) (inside u))
 
-mul-l : tie.Need-mul-l Inv-loop μ-loop
-mul-l c = search needs
-
-add-l : tie.Need-add-l Inv-loop μ-loop
-add-l c = search needs
-
-mul-l-2 : tie.Need-mul-l-2 Inv-loop μ-loop
-mul-l-2 c = search needs
-
-shared-slice-read-l : tie.Need-shared-slice-read-l Inv-loop μ-loop
-shared-slice-read-l c = search needs
-
-cast-l : tie.Need-cast-l Inv-loop μ-loop
-cast-l c = let u = c .before .before in omega (arith, left-low (tally u) (inside u), c .before .before .before .before .before .before .good .1 .0 .1)
-
-mul-r : tie.Need-mul-r Inv-loop μ-loop
-mul-r c = search needs
-
-add-r : tie.Need-add-r Inv-loop μ-loop
-add-r c = search needs
-
-mul-r-2 : tie.Need-mul-r-2 Inv-loop μ-loop
-mul-r-2 c = search needs
-
-shared-slice-read-r : tie.Need-shared-slice-read-r Inv-loop μ-loop
-shared-slice-read-r c = search needs
-
-cast-r : tie.Need-cast-r Inv-loop μ-loop
-cast-r c = let u = c .before .before .before in omega (arith, right-low (tally u) (inside u))
-
 mul-h : tie.Need-mul-h Inv-loop μ-loop
-mul-h c = let u = c .before .before .before in omega (arith, kind-low (tally u) (inside u))
+mul-h c = let u = c .before in omega (arith, kind-low (tally u) (inside u))
 
 element-copy-out-h : tie.Need-element-copy-out-h Inv-loop μ-loop
-element-copy-out-h c = let u = c .before .before .before in kind-low (tally u) (inside u)
+element-copy-out-h c = let u = c .before in kind-low (tally u) (inside u)
+
+mul-counted : tie.Need-mul-counted Inv-loop μ-loop
+mul-counted c = search needs
+
+add-counted : tie.Need-add-counted Inv-loop μ-loop
+add-counted c = search needs
+
+mul-counted-2 : tie.Need-mul-counted-2 Inv-loop μ-loop
+mul-counted-2 c = search needs
+
+shared-slice-read-counted : tie.Need-shared-slice-read-counted Inv-loop μ-loop
+shared-slice-read-counted c = search needs
+
+counted-requires : tie.Need-counted-requires Inv-loop μ-loop
+counted-requires c κs = search needs
+
+mul-counted-3 : tie.Need-mul-counted-3 Inv-loop μ-loop
+mul-counted-3 c = search needs
+
+add-counted-2 : tie.Need-add-counted-2 Inv-loop μ-loop
+add-counted-2 c = search needs
+
+mul-counted-4 : tie.Need-mul-counted-4 Inv-loop μ-loop
+mul-counted-4 c = search needs
+
+shared-slice-read-counted-2 : tie.Need-shared-slice-read-counted-2 Inv-loop μ-loop
+shared-slice-read-counted-2 c = search needs
+
+counted-requires-2 : tie.Need-counted-requires-2 Inv-loop μ-loop
+counted-requires-2 c κs = search needs
 
 operands-requires : tie.Need-operands-requires Inv-loop μ-loop
 operands-requires c κs = search needs
 
 mul-c : tie.Need-mul-c Inv-loop μ-loop
-mul-c c = let u = c .before .before .before .before .before .before .before in omega (arith, left-low (tally u) (inside u), tally-fits u)
+mul-c c = let u = c .before .before .before .before .before .before .before .before .before in omega (arith, left-low (tally u) (inside u) _ (left-at c), tally-fits u)
 
 slice-read-c : tie.Need-slice-read-c Inv-loop μ-loop
-slice-read-c c = let u = left-turn c in left-low (tally u) (inside u)
+slice-read-c c = let u = left-turn c in left-low (tally u) (inside u) _ (left-at (c .before))
 
 add-c : tie.Need-add-c Inv-loop μ-loop
-add-c c = let u = left-turn c in omega (arith, left-count (tally u) (inside u), c .before .operands .ensures)
+add-c c = let u = left-turn c in omega (arith, left-count (tally u) (inside u) _ (left-at (c .before)), c .before .operands .ensures)
 
 slice-write-c : tie.Need-slice-write-c Inv-loop μ-loop
-slice-write-c c = let u = left-turn c in left-low (tally u) (inside u)
+slice-write-c c = let u = left-turn c in left-low (tally u) (inside u) _ (left-at (c .before))
 
 operands-requires-2 : tie.Need-operands-requires-2 Inv-loop μ-loop
 operands-requires-2 c κs = search needs
 
 mul-c-2 : tie.Need-mul-c-2 Inv-loop μ-loop
-mul-c-2 c = let u = c .before .before .before .before .before .before .before .before .before in omega (arith, right-low (tally u) (inside u), tally-fits u)
+mul-c-2 c = let u = left-turn (c .before) in omega (arith, right-low (tally u) (inside u) _ (right-at (c .before .before)), tally-fits u)
 
 slice-read-c-2 : tie.Need-slice-read-c-2 Inv-loop μ-loop
-slice-read-c-2 c = let u = right-turn c in right-in (tally u) (inside u) _ (left-is c)
+slice-read-c-2 c = let u = right-turn c in let o = c .before .before .before in right-in (tally u) (inside u) _ (left-at o) _ (o .operands .ensures) _ (right-at o)
 
 add-c-2 : tie.Need-add-c-2 Inv-loop μ-loop
-add-c-2 c = let u = right-turn c in omega (arith, right-count (tally u) (inside u) _ (left-is c), c .before .operands2 .ensures)
+add-c-2 c = let u = right-turn c in let o = c .before .before .before in omega (arith, right-count (tally u) (inside u) _ (left-at o) _ (o .operands .ensures) _ (right-at o), c .before .operands2 .ensures)
 
 slice-write-c-2 : tie.Need-slice-write-c-2 Inv-loop μ-loop
-slice-write-c-2 c = let u = right-turn c in right-in (tally u) (inside u) _ (left-is c)
+slice-write-c-2 c = let u = right-turn c in let o = c .before .before .before in right-in (tally u) (inside u) _ (left-at o) _ (o .operands .ensures) _ (right-at o)
 
 add-i : tie.Need-add-i Inv-loop μ-loop
 add-i c = search needs
@@ -128,7 +133,7 @@ loop-less : tie.Need-loop-less Inv-loop μ-loop
 loop-less c = search needs
 
 loop-again : tie.Need-loop-again Inv-loop μ-loop
-loop-again c = let u = right-turn c in (omega arith, simp length-set (u .before .loop .inv .1), tallied-next (tally u) (inside u) _ (left-is c) _ (c .before .operands2 .ensures))
+loop-again c = let u = right-turn c in let o = c .before .before .before in (omega arith, simp length-set (u .before .loop .inv .1), tallied-next (tally u) (inside u) _ (left-at o) _ (o .operands .ensures) _ (right-at o) _ (c .before .operands2 .ensures))
 
 same-length : tie.Need-same-length Inv-loop μ-loop
 same-length c = c .before .loop .inv .1
@@ -147,18 +152,18 @@ count-uses-spec =
     mul-k-2
     shared-slice-read-k
     cast-k
-    mul-l
-    add-l
-    mul-l-2
-    shared-slice-read-l
-    cast-l
-    mul-r
-    add-r
-    mul-r-2
-    shared-slice-read-r
-    cast-r
     mul-h
     element-copy-out-h
+    mul-counted
+    add-counted
+    mul-counted-2
+    shared-slice-read-counted
+    counted-requires
+    mul-counted-3
+    add-counted-2
+    mul-counted-4
+    shared-slice-read-counted-2
+    counted-requires-2
     operands-requires
     mul-c
     slice-read-c
