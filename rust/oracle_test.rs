@@ -1,6 +1,6 @@
 //! Tests of the oracle and the generator: the sentences with known verdicts,
 //! the worked run, borders, doubtful places, and random agreement of the
-//! evaluators. Build with `rustc -O selftest.rs`.
+//! evaluators. Build with `rustc -O --edition 2021 oracle_test.rs`.
 
 mod generate;
 mod oracle;

@@ -6,18 +6,18 @@ use Rattle.trace.specs.declared.Refusal.{Refusal}
 use Rattle.table.specs.declared.Rules.{Rules}
 use Rattle.table.specs.Check.{unused, signal, formula, places, spare, tableRefusal}
 
--- The kinds, one a line: true, var; not, and, or; next, until. All are formulas, so that no operand is of the wrong sort.
+-- What stands left and right, kind by kind. All are formulas, so no operand is of the wrong sort, and that refusal has no number.
 abbrev pub ltlRules : Rules
 ltlRules =
     record {
       shapes =
-          places unused unused
-          ∷ places signal unused
-          ∷ places formula unused
-          ∷ places formula formula
-          ∷ places formula formula
-          ∷ places formula unused
-          ∷ places formula formula
+          places unused unused  -- 0 true
+          ∷ places signal unused  -- 1 var
+          ∷ places formula unused  -- 2 not
+          ∷ places formula formula  -- 3 and
+          ∷ places formula formula  -- 4 or
+          ∷ places formula unused  -- 5 next
+          ∷ places formula formula  -- 6 until
           ∷ spare
           ∷ spare
           ∷ spare

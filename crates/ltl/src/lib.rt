@@ -11,16 +11,16 @@ ghost use mathlib.Core.Path.{_≡_};
 ghost use Rattle.table.specs.Answer.{checked};
 ghost use Rattle.ltl.specs.Check.{ltlRefusal};
 
-// The kinds, one a line: true, var; not, and, or; next, until. All are formulas, so that no operand is of the wrong sort.
+// What stands left and right, kind by kind. All are formulas, so no operand is of the wrong sort, and that refusal has no number.
 pub const LTL: Rules = Rules {
     shapes: [
-        Shape(UNUSED, UNUSED),
-        Shape(SIGNAL, UNUSED),
-        Shape(FORMULA, UNUSED),
-        Shape(FORMULA, FORMULA),
-        Shape(FORMULA, FORMULA),
-        Shape(FORMULA, UNUSED),
-        Shape(FORMULA, FORMULA),
+        Shape(UNUSED, UNUSED), // 0 true
+        Shape(SIGNAL, UNUSED), // 1 var
+        Shape(FORMULA, UNUSED), // 2 not
+        Shape(FORMULA, FORMULA), // 3 and
+        Shape(FORMULA, FORMULA), // 4 or
+        Shape(FORMULA, UNUSED), // 5 next
+        Shape(FORMULA, FORMULA), // 6 until
         SPARE,
         SPARE,
         SPARE,

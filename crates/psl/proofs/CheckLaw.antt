@@ -1,26 +1,26 @@
 -- Laws of the PSL check: the counts of uses, which refusal decides, and what an accepted table is like.
 use mathlib.Core.Path.{_≡_, refl, sym, ap, _∙_, subst}
 use mathlib.Core.Bool.{Bool, true, false, not, cond, _&&_}
-use mathlib.Core.Option.{Option, none, some}
+use mathlib.Core.Option.{none, some}
 use mathlib.Core.List.{List}
-use Prim.Native.Nat.{ℕ, zero, suc, _+_, _*_, _-_, _/_, _≤_, _<_}
+use Prim.Native.Nat.{ℕ, zero, suc, _+_, _*_, _-_, _≤_, _<_}
 use native.Mathlib.Omega.{arith}
 use native.Mathlib.Numerals.{add-one}
 use native.Mathlib.Decide.{ℕ-discrete}
 use lib.Dec.{eqb, leb}
 use lib.ListN.{length, getD, set, length-set, replicate, length-replicate, getD-replicate}
 use lib.Seq.{getD-set-same, getD-set-other}
-use borrow.Author.Tests.{eq-eqb, ne-eqb, eqb-true, leb-true, not-true, not-false}
+use borrow.Author.Tests.{eq-eqb, ne-eqb, eqb-true, leb-true, not-true}
 use Rattle.trace.specs.Letter.{signals}
 use Rattle.trace.specs.declared.Refusal.{Refusal}
 use Rattle.table.specs.declared.Place.{Place}
-use Rattle.table.specs.declared.Checked.{Checked}
-use Rattle.table.specs.Answer.{refused, checked}
+use Rattle.table.specs.Answer.{refused}
 use Rattle.table.specs.Node.{count, kindAt, leftAt, rightAt}
-use Rattle.table.specs.Check.{shapeOf, isBoolean, unless, orElse, lowest, tableRefusal, total}
-use Rattle.table.proofs.CheckLaw.{both-true, unless-none, or-none, Fits, Sound, Sized, known-kind, table-sized, table-sound, lowest-some, none-below}
+use Rattle.table.specs.Check.{shapeOf, isBoolean, lowest, tableRefusal, total}
+use Rattle.table.proofs.CheckLaw.{both-true, unless-none, or-none, Sound, known-kind, table-sized, table-sound, lowest-some, none-below}
 use Rattle.table.proofs.KindLaw.{every}
-use Rattle.psl.specs.Check.{pslRules, one, names, namesAt, uses, useRefusal, rootRefusal, treeRefusal, pslRefusal, Tallied}
+use Rattle.psl.specs.Check.{pslRules, one, names, namesAt, uses, useRefusal, rootRefusal, treeRefusal, pslRefusal}
+use Rattle.psl.specs.Counts.{Tallied}
 
 -- ── Counts ──
 
@@ -78,8 +78,8 @@ unfolding total
 untallied t n e h l =
     record {
       table = e;
-      nodes = simp length-replicate h;
-      signs = simp length-replicate l;
+      for-nodes = simp length-replicate h;
+      for-signals = simp length-replicate l;
       counts = λ j g. getD-replicate n j 0 0 (simp length-replicate at g);
     }
 
@@ -94,12 +94,12 @@ module _ {t : List ℕ} {i : ℕ} {c : List ℕ} (T : Tallied t i c) (h : i < co
   pub left-low : leftAt t i < length c
   left-low =
       let p = shapeOf pslRules (kindAt t i) .0 in
-      place-low (p .operand) (p .limit) (leftAt t i) i (length c) (sound .left .low) (omega (arith, T .nodes)) (omega (arith, T .signs, limits (kindAt t i) kind-low .0))
+      place-low (p .operand) (p .limit) (leftAt t i) i (length c) (sound .left .low) (omega (arith, T .for-nodes)) (omega (arith, T .for-signals, limits (kindAt t i) kind-low .0))
 
   pub right-low : rightAt t i < length c
   right-low =
       let q = shapeOf pslRules (kindAt t i) .1 in
-      place-low (q .operand) (q .limit) (rightAt t i) i (length c) (sound .right .low) (omega (arith, T .nodes)) (omega (arith, T .signs, limits (kindAt t i) kind-low .1))
+      place-low (q .operand) (q .limit) (rightAt t i) i (length c) (sound .right .low) (omega (arith, T .for-nodes)) (omega (arith, T .for-signals, limits (kindAt t i) kind-low .1))
 
   few : i < 1024
   few = omega (arith, table-sized pslRules t (T .table) .low)
@@ -129,8 +129,8 @@ module _ {t : List ℕ} {i : ℕ} {c : List ℕ} (T : Tallied t i c) (h : i < co
         let z : length (set d (rightAt t i) (getD d (rightAt t i) 0 + b)) ≡ length c = simp length-set in
         record {
           table = T .table;
-          nodes = omega (arith, z, T .nodes);
-          signs = omega (arith, z, T .signs);
+          for-nodes = omega (arith, z, T .for-nodes);
+          for-signals = omega (arith, z, T .for-signals);
           counts = λ j l.
               rw (add-one i)
               (add-use q (rightAt t i) b _ d right-in eb (λ j l. half j (simp length-set at l)) j (simp length-set (omega arith)) ∙ omega arith);
@@ -141,7 +141,7 @@ module _ {t : List ℕ} {i : ℕ} {c : List ℕ} (T : Tallied t i c) (h : i < co
 -- Node j by its count.
 module _ {t c : List ℕ} (T : Tallied t (count t) c) (j : ℕ) (h : j < count t) where
   pub in-counts : j < length c
-  in-counts = omega (arith, T .nodes)
+  in-counts = omega (arith, T .for-nodes)
 
   pub used-once : getD c j 0 ≡ 1 → useRefusal t j ≡ none
   unfolding useRefusal

@@ -11,7 +11,7 @@ use lib.Dec.{eqb}
 use Rattle.table.specs.declared.Place.{Place}
 use Rattle.table.specs.Node.{node, count, kindAt, leftAt, rightAt}
 use Rattle.table.specs.Check.{shapeOf, tableRefusal, total}
-use Rattle.table.proofs.CheckLaw.{Sound, fit-below, kind-in, table-sized, table-sound}
+use Rattle.table.proofs.CheckLaw.{fit-below, kind-in, table-sized, table-sound}
 use Rattle.table.proofs.KindLaw.{_⨾_, each}
 use Rattle.table.proofs.SumLaw.{total-same, total-add, total-zero, total-one, total-ones}
 use Rattle.psl.specs.Formula.{weighB, weigh, nodeCount}

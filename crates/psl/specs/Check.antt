@@ -2,11 +2,8 @@
 use mathlib.Core.Bool.{Bool, true, false, not, _&&_}
 use mathlib.Core.Option.{Option, none}
 use mathlib.Core.List.{List, [], _∷_}
-use Prim.Native.Nat.{ℕ, _+_, _-_, _≤_, _<_}
-use mathlib.Core.Path.{_≡_}
+use Prim.Native.Nat.{ℕ, _+_, _-_}
 use lib.Dec.{eqb}
-use lib.ListN.{length, getD}
-use Rattle.trace.specs.Letter.{signals}
 use Rattle.trace.specs.declared.Refusal.{Refusal}
 use Rattle.table.specs.declared.Place.{Place}
 use Rattle.table.specs.declared.Rules.{Rules}
@@ -14,22 +11,22 @@ use Rattle.table.specs.Answer.{refused}
 use Rattle.table.specs.Node.{count, kindAt, leftAt, rightAt}
 use Rattle.table.specs.Check.{unused, signal, boolean, formula, places, shapeOf, isBoolean, unless, orElse, lowest, tableRefusal, total}
 
--- The kinds, one a line: true, var; bnot, band; weak, strong; not, and; next, until; abort. The first four are Booleans.
+-- What stands left and right, kind by kind. The first four kinds are Booleans, the others formulas.
 abbrev pub pslRules : Rules
 pslRules =
     record {
       shapes =
-          places unused unused
-          ∷ places signal unused
-          ∷ places boolean unused
-          ∷ places boolean boolean
-          ∷ places boolean unused
-          ∷ places boolean unused
-          ∷ places formula unused
-          ∷ places formula formula
-          ∷ places formula unused
-          ∷ places formula formula
-          ∷ places formula boolean
+          places unused unused  -- 0 true
+          ∷ places signal unused  -- 1 var
+          ∷ places boolean unused  -- 2 bnot
+          ∷ places boolean boolean  -- 3 band
+          ∷ places boolean unused  -- 4 weak
+          ∷ places boolean unused  -- 5 strong
+          ∷ places formula unused  -- 6 not
+          ∷ places formula formula  -- 7 and
+          ∷ places formula unused  -- 8 next
+          ∷ places formula formula  -- 9 until
+          ∷ places formula boolean  -- 10 abort
           ∷ [];
       kinds = 11;
       booleans = 4;
@@ -37,7 +34,7 @@ pslRules =
       numbers = record { length = 1; kind = 2; unused = 3; signal = 4; operand = 5; sort = 6 };
     }
 
--- How often a place that holds n names node j.
+-- How often a place that holds n names node j: once or not at all.
 abbrev pub one : Bool → ℕ
 one true = 1
 one false = 0
@@ -54,27 +51,18 @@ namesAt t j i =
 abbrev pub uses : List ℕ → ℕ → ℕ
 uses t j = total (namesAt t j) (count t)
 
--- Each node but the last is an operand exactly once.
+-- 7: a node that is not an operand exactly once.
 unfoldable pub useRefusal : List ℕ → ℕ → Option Refusal
 useRefusal t j = unless (eqb (uses t j) 1) (refused 7) none
 
--- The last node is a formula.
+-- 8: the last node is a Boolean.
 unfoldable pub rootRefusal : List ℕ → Option Refusal
 rootRefusal t = unless (not (isBoolean pslRules t (count t - 1))) (refused 8) none
 
--- The lowest node that is misused, then the last.
+-- After every node has passed: 7 for the lowest node but the last, then 8.
 unfoldable pub treeRefusal : List ℕ → Option Refusal
 treeRefusal t = orElse (lowest (useRefusal t) (count t - 1)) (rootRefusal t)
 
--- First what both tables share.
+-- 1 to 6 as both tables have them, then these.
 unfoldable pub pslRefusal : List ℕ → Option Refusal
 pslRefusal t = orElse (tableRefusal pslRules t) (treeRefusal t)
-
--- ── The counts that the code keeps ──
-
--- Of a table that passed the first tests: c has, for each node, how often the first i nodes name it, with room for every node and every signal.
-pub record Tallied (t : List ℕ) (i : ℕ) (c : List ℕ) : Type 0 where
-  pub table : tableRefusal pslRules t ≡ none
-  pub nodes : count t ≤ length c
-  pub signs : signals ≤ length c
-  pub counts : (j : ℕ) → j < length c → getD c j 0 ≡ total (namesAt t j) i

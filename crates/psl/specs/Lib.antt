@@ -4,4 +4,5 @@ pub mod Empty
 pub mod Table
 pub mod Parts
 pub mod Check
+pub mod Counts
 pub mod Known

@@ -14,22 +14,23 @@ ghost use mathlib.Core.Option.{none};
 ghost use Rattle.table.specs.Answer.{checked};
 ghost use Rattle.table.specs.Node.{count};
 ghost use Rattle.table.specs.Check.{tableRefusal};
-ghost use Rattle.psl.specs.Check.{pslRules, one, treeRefusal, pslRefusal, Tallied};
+ghost use Rattle.psl.specs.Check.{pslRules, one, treeRefusal, pslRefusal};
+ghost use Rattle.psl.specs.Counts.{Tallied};
 
-// The kinds, one a line: true, var; bnot, band; weak, strong; not, and; next, until; abort. The first four are Booleans.
+// What stands left and right, kind by kind. The first four kinds are Booleans, the others formulas.
 pub const PSL: Rules = Rules {
     shapes: [
-        Shape(UNUSED, UNUSED),
-        Shape(SIGNAL, UNUSED),
-        Shape(BOOLEAN, UNUSED),
-        Shape(BOOLEAN, BOOLEAN),
-        Shape(BOOLEAN, UNUSED),
-        Shape(BOOLEAN, UNUSED),
-        Shape(FORMULA, UNUSED),
-        Shape(FORMULA, FORMULA),
-        Shape(FORMULA, UNUSED),
-        Shape(FORMULA, FORMULA),
-        Shape(FORMULA, BOOLEAN),
+        Shape(UNUSED, UNUSED), // 0 true
+        Shape(SIGNAL, UNUSED), // 1 var
+        Shape(BOOLEAN, UNUSED), // 2 bnot
+        Shape(BOOLEAN, BOOLEAN), // 3 band
+        Shape(BOOLEAN, UNUSED), // 4 weak
+        Shape(BOOLEAN, UNUSED), // 5 strong
+        Shape(FORMULA, UNUSED), // 6 not
+        Shape(FORMULA, FORMULA), // 7 and
+        Shape(FORMULA, UNUSED), // 8 next
+        Shape(FORMULA, FORMULA), // 9 until
+        Shape(FORMULA, BOOLEAN), // 10 abort
     ],
     kinds: 11,
     booleans: 4,

@@ -17,8 +17,8 @@ use Rattle.table.specs.declared.Numbers.{Numbers}
 use Rattle.table.specs.declared.Rules.{Rules}
 use Rattle.table.specs.declared.Checked.{Checked}
 use Rattle.table.specs.declared.Checked.the-variants.{Accepted, Refused}
-use Rattle.table.specs.Node.{Node, node, count, kindAt, leftAt, rightAt, nodeAt}
 use Rattle.table.specs.Answer.{refused, checked}
+use Rattle.table.specs.Node.{count, kindAt, leftAt, rightAt, nodeAt}
 use Rattle.table.specs.Check.{unusedFits, signalFits, operandFits, sortFits, allFit, lengthFits, known, mostKinds, shapeOf, unless, placesRefusal, nodeRefusal, isBoolean, refusalAt, orElse, lowest, tableRefusal}
 
 -- ── Tests and answers ──
@@ -262,7 +262,8 @@ module _ (R : Rules) (t : List ℕ) where
     pub table-sound : (i : ℕ) → i < count t → Sound R t i
     table-sound i h = node-sound R t i (none-below (refusalAt R t) (count t) i h (parts .1))
 
-    -- For callers: node i of a table that is not refused, by its kind.
+    -- For callers: node i of a table that is not refused. At a kind's own number the places compute: with q : kindAt t i ≡ 3,
+    -- `right-fits pslRules t e i h 3 q .low` says that the right operand is below i, and `fit-sort` of it, at `refl`, that it is a Boolean.
     module _ (i : ℕ) (h : i < count t) where
       pub kind-in : kindAt t i < R .kinds
       kind-in = known-kind R (kindAt t i) (table-sound i h .kind)

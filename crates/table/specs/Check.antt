@@ -1,7 +1,7 @@
 -- What both checks share: the first refusal that applies to a table, by its rules.
 use mathlib.Core.Bool.{Bool, true, false, not, cond, _&&_, _||_, Bool·beq}
 use mathlib.Core.Option.{Option, none, some}
-use mathlib.Core.List.{List, [], _∷_}
+use mathlib.Core.List.{List}
 use Prim.Native.Nat.{ℕ, zero, suc, _+_, _*_, _/_, _%_}
 use lib.Dec.{eqb, ltb, leb}
 use lib.ListN.{length, getD}
@@ -67,7 +67,7 @@ allFit p n i b = ltb n (cond (p .operand) i (p .limit)) && sortFits p b
 
 -- ── The refusals ──
 
--- The number of nodes, of n numbers in all.
+-- The length n of a table: in threes, of one node or more, and not above the most.
 abbrev pub lengthFits : ℕ → ℕ → Bool
 lengthFits most n = (eqb (n % 3) 0 && ltb 0 (n / 3)) && leb (n / 3) most
 
@@ -75,6 +75,7 @@ lengthFits most n = (eqb (n % 3) 0 && ltb 0 (n / 3)) && leb (n / 3) most
 abbrev pub mostKinds : ℕ
 mostKinds = 11
 
+-- A number that is a kind of the table.
 abbrev pub known : Rules → ℕ → Bool
 known R k = ltb k (R .kinds) && ltb k mostKinds
 
@@ -87,7 +88,7 @@ abbrev pub unless : Bool → Refusal → Option Refusal → Option Refusal
 unless true x o = o
 unless false x o = some x
 
--- The places of node i, its operands being Booleans if lb and rb: both by one test before the next.
+-- The places of node i, its operands being Booleans if lb and rb: left and right by one test, then both by the next.
 unfoldable pub placesRefusal : Numbers → Shape → ℕ → ℕ → ℕ → Bool → Bool → Option Refusal
 placesRefusal x h i l r lb rb =
     let p = h .0 in
@@ -97,12 +98,12 @@ placesRefusal x h i l r lb rb =
     (unless (operandFits p l i && operandFits q r i) (refused (x .operand))
     (unless (sortFits p lb && sortFits q rb) (refused (x .sort)) none)))
 
--- Node i: first its kind.
+-- Node i: its kind, then its places.
 unfoldable pub nodeRefusal : Rules → ℕ → Node → Bool → Bool → Option Refusal
 nodeRefusal R i (node k l r) lb rb =
     unless (known R k) (refused (R .numbers .kind)) (placesRefusal (R .numbers) (shapeOf R k) i l r lb rb)
 
--- The first kinds of a table are its Booleans.
+-- Node i is a Boolean: the first kinds of a table are.
 abbrev pub isBoolean : Rules → List ℕ → ℕ → Bool
 isBoolean R t i = ltb (kindAt t i) (R .booleans)
 

@@ -18,7 +18,8 @@ pub const SIGNALS: u16 = 32;
 // How many kinds a table can have.
 pub const KINDS: u16 = 11;
 
-// What a place of a node holds: the number of an operand, Boolean or not, or else a number below the limit.
+// What a place of a node holds: the number of an operand, Boolean or not, or else a number below the limit. Data and not an enum, so that
+// the test of a node takes no branch on its kind.
 pub struct Place {
     pub operand: bool,
     pub boolean: bool,
@@ -65,7 +66,7 @@ pub struct Numbers {
     pub sort: u8,
 }
 
-// The rules of a table: the shapes of its kinds, how many kinds there are, how many of them, the first, are Booleans, and the most nodes.
+// The rules of a table: the shapes of its kinds, how many kinds there are, how many of these, the first, are Booleans, and the most nodes.
 pub struct Rules {
     pub shapes: [Shape; 11],
     pub kinds: u16,
@@ -79,7 +80,7 @@ pub enum Checked {
     Refused(Refusal),
 }
 
-// A table of n numbers has a right count of nodes. (A caller that took `most` from a struct does not know its range otherwise.)
+// A table of n numbers has as many nodes as are allowed. (The range of `most` is for the caller, who has it from a struct.)
 fn length_fits(most: u16, n: usize) -> bool
     ensures { λ r. ⌜ (r ≡ lengthFits most n) × (most < 65536) ⌝ }
 {
@@ -117,7 +118,7 @@ fn bound(p: Place, i: u16) -> u16
     if p.operand { i } else { p.limit }
 }
 
-// All four tests at once.
+// All four tests at once, and for both places.
 fn place_fits(p: Place, n: u16, i: u16, b: bool) -> bool
     ensures { λ r. ⌜ r ≡ allFit p n i b ⌝ }
 {

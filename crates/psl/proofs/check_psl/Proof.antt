@@ -1,3 +1,4 @@
+-- `check_psl` answers what both tables share, then what only PSL asks.
 use mathlib.Core.Path.{_≡_, sym, ap, _∙_}
 use mathlib.Core.Option.{none}
 use Rattle.table.specs.Answer.{checked}
@@ -8,36 +9,26 @@ use Rattle.psl.proofs.CheckLaw.{psl-first, psl-then}
 use borrow.Author.Needs.{needs}
 use Rattle.psl.proofs.check_psl.Statement.{statement}
 use Rattle.psl.proofs.check_psl.Tie as tie
-use Rattle.psl.proofs.check_psl.Reads as reads
-use Rattle.psl.proofs.check_psl.Lts as lts
-use Rattle.psl.proofs.check_tree.Reads as check-tree-reads
-use Rattle.table.proofs.check_table.Reads as check-table-reads
 
 -- Past the tests that both tables share.
 fine : (c : tie.After-enum-told) → tableRefusal pslRules (c .before .before .before .before .args .t .now) ≡ none
 fine c = accepted _ _ (c .before .before .check-table .ensures) (c .enum-told .given .1)
 
--- src/lib.rt:112:9
 check-table-requires : tie.Need-check-table-requires
 check-table-requires c κs = search needs
 
--- src/lib.rt:114:30
 enum-told : tie.Need-enum-told
 enum-told c = search needs
 
--- src/lib.rt:114:30
 check-tree-requires : tie.Need-check-tree-requires
 check-tree-requires c κs = fine c
 
--- src/lib.rt:115:26
 enum-known-x : tie.Need-enum-known-x
 enum-known-x c = search needs
 
--- src/lib.rt:109:1
 returns : tie.Need-returns
 returns c = c .check-tree .ensures ∙ sym (ap checked (psl-then _ (fine (c .before))))
 
--- src/lib.rt:109:1
 returns-2 : tie.Need-returns-2
 returns-2 c =
     let x = c .before in

@@ -1,3 +1,4 @@
+-- `check_tree` starts from cleared counts, of which there are enough.
 use native.Mathlib.Omega.{arith}
 use Rattle.table.proofs.CheckLaw.{table-sized}
 use Rattle.psl.specs.Check.{pslRules}
@@ -5,31 +6,22 @@ use Rattle.psl.proofs.CheckLaw.{untallied}
 use borrow.Author.Needs.{needs}
 use Rattle.psl.proofs.check_tree.Statement.{statement}
 use Rattle.psl.proofs.check_tree.Tie as tie
-use Rattle.psl.proofs.check_tree.Reads as reads
-use Rattle.psl.proofs.check_tree.Lts as lts
-use Rattle.psl.proofs.check_uses.Reads as check-uses-reads
 
--- src/lib.rt:101:23
 slice-aggregate-check-uses : tie.Need-slice-aggregate-check-uses
 slice-aggregate-check-uses c = search needs
 
--- src/lib.rt:101:9
 check-uses-requires : tie.Need-check-uses-requires
 check-uses-requires c κs = let st = c .before .before .before in untallied (st .args .t .now) 128 (st .pre) (omega arith) (omega arith)
 
--- src/lib.rt:104:23
 slice-aggregate-check-uses-2 : tie.Need-slice-aggregate-check-uses-2
 slice-aggregate-check-uses-2 c = search needs
 
--- src/lib.rt:104:9
 check-uses-requires-2 : tie.Need-check-uses-requires-2
 check-uses-requires-2 c κs = let st = c .before .before .before in untallied (st .args .t .now) 1024 (st .pre) (table-sized pslRules _ (st .pre) .low) (omega arith)
 
--- src/lib.rt:95:1
 returns : tie.Need-returns
 returns c = search needs
 
--- src/lib.rt:95:1
 returns-2 : tie.Need-returns-2
 returns-2 c = search needs
 

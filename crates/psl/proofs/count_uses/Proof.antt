@@ -1,17 +1,16 @@
+-- `count_uses` counts the operands of one node after the other.
 use borrow.Author.Needs.{needs}
-use Prim.Native.Nat.{ℕ, _+_, _*_, _-_, _^_, _≤_, _<_}
-use mathlib.Core.Path.{_≡_, refl, ap, subst}
+use Prim.Native.Nat.{ℕ, _*_, _-_, _^_, _≤_, _<_}
+use mathlib.Core.Path.{_≡_, refl, subst}
 use native.Mathlib.Omega.{arith}
-use lib.ListN.{length, getD, length-set}
-use Rattle.table.specs.Node.{count, kindAt, leftAt}
+use lib.ListN.{length, length-set}
+use Rattle.table.specs.Node.{count, kindAt}
 use Rattle.table.specs.Check.{shapeOf}
-use Rattle.psl.specs.Check.{pslRules, one, Tallied}
+use Rattle.psl.specs.Check.{pslRules, one}
+use Rattle.psl.specs.Counts.{Tallied}
 use Rattle.psl.proofs.CheckLaw.{kind-low, left-low, right-low, left-count, right-in, right-count, tallied-next}
 use Rattle.psl.proofs.count_uses.Statement.{statement}
 use Rattle.psl.proofs.count_uses.Tie as tie
-use Rattle.psl.proofs.count_uses.Reads as reads
-use Rattle.psl.proofs.count_uses.Lts as lts
-use Rattle.psl.proofs.operands.Reads as operands-reads
 
 abbrev Inv-loop : tie.InvT-loop
 Inv-loop t c₀ rules n i₀ c i = (i ≤ n) × (length c ≡ length c₀) × Tallied t i c
@@ -41,131 +40,99 @@ left-is : (c : tie.After-slice-known3 Inv-loop μ-loop)
     c .before .before .before .operands .result ≡ one (shapeOf pslRules (kindAt (lp .before .before .before .args .t .now) (lp .loop .i)) .0 .operand)
 left-is c = c .before .before .before .operands .ensures
 
--- src/lib.rt:61:5
 loop-holds : tie.Need-loop-holds Inv-loop μ-loop
 loop-holds c = (omega arith, refl, c .before .before .pre)
 
--- src/lib.rt:62:19
 mul-k : tie.Need-mul-k Inv-loop μ-loop
 mul-k c = search needs
 
--- src/lib.rt:62:17
 mul-k-2 : tie.Need-mul-k-2 Inv-loop μ-loop
 mul-k-2 c = search needs
 
--- src/lib.rt:62:17
 shared-slice-read-k : tie.Need-shared-slice-read-k Inv-loop μ-loop
 shared-slice-read-k c = search needs
 
--- src/lib.rt:62:17
 cast-k : tie.Need-cast-k Inv-loop μ-loop
 cast-k c = let u = c .before in omega (arith, kind-low (tally u) (inside u))
 
--- src/lib.rt:63:19
 mul-l : tie.Need-mul-l Inv-loop μ-loop
 mul-l c = search needs
 
--- src/lib.rt:63:19
 add-l : tie.Need-add-l Inv-loop μ-loop
 add-l c = search needs
 
--- src/lib.rt:63:17
 mul-l-2 : tie.Need-mul-l-2 Inv-loop μ-loop
 mul-l-2 c = search needs
 
--- src/lib.rt:63:17
 shared-slice-read-l : tie.Need-shared-slice-read-l Inv-loop μ-loop
 shared-slice-read-l c = search needs
 
--- src/lib.rt:63:17
 cast-l : tie.Need-cast-l Inv-loop μ-loop
 cast-l c = let u = c .before .before in omega (arith, left-low (tally u) (inside u), c .before .before .before .before .before .before .good .1 .0 .1)
 
--- src/lib.rt:64:19
 mul-r : tie.Need-mul-r Inv-loop μ-loop
 mul-r c = search needs
 
--- src/lib.rt:64:19
 add-r : tie.Need-add-r Inv-loop μ-loop
 add-r c = search needs
 
--- src/lib.rt:64:17
 mul-r-2 : tie.Need-mul-r-2 Inv-loop μ-loop
 mul-r-2 c = search needs
 
--- src/lib.rt:64:17
 shared-slice-read-r : tie.Need-shared-slice-read-r Inv-loop μ-loop
 shared-slice-read-r c = search needs
 
--- src/lib.rt:64:17
 cast-r : tie.Need-cast-r Inv-loop μ-loop
 cast-r c = let u = c .before .before .before in omega (arith, right-low (tally u) (inside u))
 
--- src/lib.rt:65:17
 mul-h : tie.Need-mul-h Inv-loop μ-loop
 mul-h c = let u = c .before .before .before in omega (arith, kind-low (tally u) (inside u))
 
--- src/lib.rt:65:17
 element-copy-out-h : tie.Need-element-copy-out-h Inv-loop μ-loop
 element-copy-out-h c = let u = c .before .before .before in kind-low (tally u) (inside u)
 
--- src/lib.rt:68:17
 operands-requires : tie.Need-operands-requires Inv-loop μ-loop
 operands-requires c κs = search needs
 
--- src/lib.rt:68:9
 mul-c : tie.Need-mul-c Inv-loop μ-loop
 mul-c c = let u = c .before .before .before .before .before .before .before in omega (arith, left-low (tally u) (inside u), tally-fits u)
 
--- src/lib.rt:68:9
 slice-read-c : tie.Need-slice-read-c Inv-loop μ-loop
 slice-read-c c = let u = left-turn c in left-low (tally u) (inside u)
 
--- src/lib.rt:68:9
 add-c : tie.Need-add-c Inv-loop μ-loop
 add-c c = let u = left-turn c in omega (arith, left-count (tally u) (inside u), c .before .operands .ensures)
 
--- src/lib.rt:68:9
 slice-write-c : tie.Need-slice-write-c Inv-loop μ-loop
 slice-write-c c = let u = left-turn c in left-low (tally u) (inside u)
 
--- src/lib.rt:69:17
 operands-requires-2 : tie.Need-operands-requires-2 Inv-loop μ-loop
 operands-requires-2 c κs = search needs
 
--- src/lib.rt:69:9
 mul-c-2 : tie.Need-mul-c-2 Inv-loop μ-loop
 mul-c-2 c = let u = c .before .before .before .before .before .before .before .before .before in omega (arith, right-low (tally u) (inside u), tally-fits u)
 
--- src/lib.rt:69:9
 slice-read-c-2 : tie.Need-slice-read-c-2 Inv-loop μ-loop
 slice-read-c-2 c = let u = right-turn c in right-in (tally u) (inside u) _ (left-is c)
 
--- src/lib.rt:69:9
 add-c-2 : tie.Need-add-c-2 Inv-loop μ-loop
 add-c-2 c = let u = right-turn c in omega (arith, right-count (tally u) (inside u) _ (left-is c), c .before .operands2 .ensures)
 
--- src/lib.rt:69:9
 slice-write-c-2 : tie.Need-slice-write-c-2 Inv-loop μ-loop
 slice-write-c-2 c = let u = right-turn c in right-in (tally u) (inside u) _ (left-is c)
 
--- src/lib.rt:70:9
 add-i : tie.Need-add-i Inv-loop μ-loop
 add-i c = search needs
 
--- src/lib.rt:61:5
 loop-less : tie.Need-loop-less Inv-loop μ-loop
 loop-less c = search needs
 
--- src/lib.rt:61:5
 loop-again : tie.Need-loop-again Inv-loop μ-loop
 loop-again c = let u = right-turn c in (omega arith, simp length-set (u .before .loop .inv .1), tallied-next (tally u) (inside u) _ (left-is c) _ (c .before .operands2 .ensures))
 
--- src/lib.rt:54:1
 same-length : tie.Need-same-length Inv-loop μ-loop
 same-length c = c .before .loop .inv .1
 
--- src/lib.rt:54:1
 returns : tie.Need-returns Inv-loop μ-loop
 returns c = let lp = c .before in subst (λ (m : ℕ). Tallied (lp .before .before .before .args .t .now) m (lp .loop .c)) (let z : lp .loop .i ≡ count (lp .before .before .before .args .t .now) = omega arith in z) (lp .loop .inv .2)
 

@@ -1,31 +1,24 @@
+-- `check_node` answers for the kind, then for the places.
 use borrow.Author.Tests.{not-true, not-false}
 use Rattle.table.specs.Check.{known, nodeRefusal}
 use Rattle.table.proofs.CheckLaw.{known-low}
 use borrow.Author.Needs.{needs}
 use Rattle.table.proofs.check_node.Statement.{statement}
 use Rattle.table.proofs.check_node.Tie as tie
-use Rattle.table.proofs.check_node.Reads as reads
-use Rattle.table.proofs.check_node.Lts as lts
-use Rattle.table.proofs.check_places.Reads as check-places-reads
 
--- src/lib.rt:178:9
 returns : tie.Need-returns
 unfolding nodeRefusal
 returns c = let a = c .before .before .args in rw (not-true (known (a .t1) (a .k)) (c .if1 .taken))
 
--- src/lib.rt:181:13
 mul-h : tie.Need-mul-h
 mul-h c = search needs
 
--- src/lib.rt:181:13
 element-copy-out-h : tie.Need-element-copy-out-h
 element-copy-out-h c = let a = c .before .before .args in known-low (a .t1) (a .k) (not-false _ (c .if1 .left))
 
--- src/lib.rt:182:5
 check-places-requires : tie.Need-check-places-requires
 check-places-requires c κs = search needs
 
--- src/lib.rt:173:1
 returns-2 : tie.Need-returns-2
 unfolding nodeRefusal
 returns-2 c =

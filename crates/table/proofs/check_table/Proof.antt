@@ -1,3 +1,4 @@
+-- `check_table` answers for the length, then for the lowest node that is refused: the loop passes nodes that are not.
 use borrow.Author.Needs.{needs}
 use Prim.Native.Nat.{_-_, _≤_, _<_}
 use mathlib.Core.Path.{_≡_, sym, ap, _∙_}
@@ -8,17 +9,11 @@ use lib.ListN.{length}
 use mathlib.Core.Option.{none}
 use native.Mathlib.Omega.{arith}
 use Rattle.table.specs.Node.{nodeAt, kindAt}
-use Rattle.table.specs.Check.{lengthFits, nodeRefusal, refusalAt, lowest}
+use Rattle.table.specs.Check.{lengthFits, mostKinds, nodeRefusal, refusalAt, lowest}
 use Rattle.table.specs.Answer.{checked}
 use Rattle.table.proofs.CheckLaw.{sized, known-low, read-node, fast-none, fast-some, unknown-some, lowest-zero, lowest-next, refused-length, refused-node, refused-none}
 use Rattle.table.proofs.check_table.Statement.{statement}
 use Rattle.table.proofs.check_table.Tie as tie
-use Rattle.table.proofs.check_table.Reads as reads
-use Rattle.table.proofs.check_table.Lts as lts
-use Rattle.table.proofs.check_node.Reads as check-node-reads
-use Rattle.table.proofs.kind_at.Reads as kind-at-reads
-use Rattle.table.proofs.length_fits.Reads as length-fits-reads
-use Rattle.table.proofs.places_fit.Reads as places-fit-reads
 
 abbrev Inv-loop : tie.InvT-loop
 Inv-loop t rules n i₀ i = (i ≤ n) × (lowest (refusalAt rules t) i ≡ none)
@@ -40,88 +35,69 @@ read : (r : tie.After-kind-at2 Inv-loop μ-loop)
     nodeRefusal (a .t1) i (nodeAt (a .t .now) i) (ltb (r .before .kind-at .result) (a .t1 .booleans)) (ltb (r .kind-at2 .result) (a .t1 .booleans)) ≡ refusalAt (a .t1) (a .t .now) i
 read r = let a = at-loop r .before .before .before .before .args in read-node (a .t1) (a .t .now) (at-loop r .loop .i) _ _ (r .before .kind-at .ensures) (r .kind-at2 .ensures)
 
-low-kind : (u : tie.Else2 Inv-loop μ-loop) → kindAt (at-loop (u .before) .before .before .before .before .args .t .now) (at-loop (u .before) .loop .i) < 11
+low-kind : (u : tie.Else2 Inv-loop μ-loop) → kindAt (at-loop (u .before) .before .before .before .before .args .t .now) (at-loop (u .before) .loop .i) < mostKinds
 low-kind u = known-low (at-loop (u .before) .before .before .before .before .args .t1) _ (not-false _ (u .if2 .left))
 
--- src/lib.rt:196:9
 length-fits-requires : tie.Need-length-fits-requires Inv-loop μ-loop
 length-fits-requires c κs = search needs
 
--- src/lib.rt:198:9
 returns : tie.Need-returns Inv-loop μ-loop
 returns c =
     let f = c .before .before in
     let a = f .before .before .args in
     sym (ap checked (refused-length (a .t1) (a .t .now) (sym (f .length-fits .ensures .0) ∙ not-true (f .length-fits .result) (c .before .if1 .taken))))
 
--- src/lib.rt:202:5
 loop-holds : tie.Need-loop-holds Inv-loop μ-loop
 loop-holds c = (omega arith, lowest-zero _)
 
--- src/lib.rt:203:19
 mul-k : tie.Need-mul-k Inv-loop μ-loop
 mul-k c = search needs
 
--- src/lib.rt:203:17
 mul-k-2 : tie.Need-mul-k-2 Inv-loop μ-loop
 mul-k-2 c = search needs
 
--- src/lib.rt:203:17
 shared-slice-read-k : tie.Need-shared-slice-read-k Inv-loop μ-loop
 shared-slice-read-k c = search needs
 
--- src/lib.rt:204:19
 mul-l : tie.Need-mul-l Inv-loop μ-loop
 mul-l c = search needs
 
--- src/lib.rt:204:19
 add-l : tie.Need-add-l Inv-loop μ-loop
 add-l c = search needs
 
--- src/lib.rt:204:17
 mul-l-2 : tie.Need-mul-l-2 Inv-loop μ-loop
 mul-l-2 c = search needs
 
--- src/lib.rt:204:17
 shared-slice-read-l : tie.Need-shared-slice-read-l Inv-loop μ-loop
 shared-slice-read-l c = search needs
 
--- src/lib.rt:205:19
 mul-r : tie.Need-mul-r Inv-loop μ-loop
 mul-r c = search needs
 
--- src/lib.rt:205:19
 add-r : tie.Need-add-r Inv-loop μ-loop
 add-r c = search needs
 
--- src/lib.rt:205:17
 mul-r-2 : tie.Need-mul-r-2 Inv-loop μ-loop
 mul-r-2 c = search needs
 
--- src/lib.rt:205:17
 shared-slice-read-r : tie.Need-shared-slice-read-r Inv-loop μ-loop
 shared-slice-read-r c = search needs
 
--- src/lib.rt:206:18
 kind-at-requires : tie.Need-kind-at-requires Inv-loop μ-loop
 kind-at-requires c κs = search needs
 
--- src/lib.rt:207:18
 kind-at-requires-2 : tie.Need-kind-at-requires-2 Inv-loop μ-loop
 kind-at-requires-2 c κs = search needs
 
--- src/lib.rt:208:19
 cast-own : tie.Need-cast-own Inv-loop μ-loop
 cast-own c =
     let e = c .before .before .before .before .before .before .before in
     let a = e .before .before .before .args in
     omega (arith, sized (a .t1) (a .t .now) (right-length e) .low, e .before .length-fits .ensures .1)
 
--- src/lib.rt:210:13
 check-node-requires : tie.Need-check-node-requires Inv-loop μ-loop
 check-node-requires c κs = search needs
 
--- src/lib.rt:210:13
 returns-2 : tie.Need-returns-2 Inv-loop μ-loop
 returns-2 c =
     let r = c .before .before in
@@ -132,27 +108,21 @@ returns-2 c =
     (unknown-some (a .t1) (a .t .now) (lp .loop .i) (not-true _ (c .before .if2 .taken)))
     (c .check-node .ensures ∙ ap checked (read r))
 
--- src/lib.rt:212:18
 cast-at : tie.Need-cast-at Inv-loop μ-loop
 cast-at c = omega (arith, low-kind c)
 
--- src/lib.rt:213:17
 mul-h : tie.Need-mul-h Inv-loop μ-loop
 mul-h c = omega (arith, low-kind c)
 
--- src/lib.rt:213:17
 element-copy-out-h : tie.Need-element-copy-out-h Inv-loop μ-loop
 element-copy-out-h c = low-kind c
 
--- src/lib.rt:214:13
 places-fit-requires : tie.Need-places-fit-requires Inv-loop μ-loop
 places-fit-requires c κs = search needs
 
--- src/lib.rt:215:13
 check-node-requires-2 : tie.Need-check-node-requires-2 Inv-loop μ-loop
 check-node-requires-2 c κs = search needs
 
--- src/lib.rt:215:13
 returns-3 : tie.Need-returns-3 Inv-loop μ-loop
 returns-3 c =
     let p = c .before .before in
@@ -165,15 +135,12 @@ returns-3 c =
     (sym (p .places-fit .ensures) ∙ not-true _ (c .before .if3 .taken)))
     (c .check-node2 .ensures ∙ ap checked (read r))
 
--- src/lib.rt:217:9
 add-i : tie.Need-add-i Inv-loop μ-loop
 add-i c = search needs
 
--- src/lib.rt:202:5
 loop-less : tie.Need-loop-less Inv-loop μ-loop
 loop-less c = search needs
 
--- src/lib.rt:202:5
 loop-again : tie.Need-loop-again Inv-loop μ-loop
 loop-again c =
     let p = c .before in
@@ -187,7 +154,6 @@ loop-again c =
           (sym (p .places-fit .ensures) ∙ not-false _ (c .if3 .left))),
     )
 
--- src/lib.rt:193:1
 returns-4 : tie.Need-returns-4 Inv-loop μ-loop
 returns-4 c =
     let lp = c .before in

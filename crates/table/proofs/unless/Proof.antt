@@ -1,13 +1,10 @@
+-- `unless` keeps what the later tests answer, or refuses.
 use Rattle.table.proofs.unless.Statement.{statement}
 use Rattle.table.proofs.unless.Tie as tie
-use Rattle.table.proofs.unless.Reads as reads
-use Rattle.table.proofs.unless.Lts as lts
 
--- src/lib.rt:137:1
 returns : tie.Need-returns
 returns c = λ o e. rw (c .if1 .taken) e
 
--- src/lib.rt:137:1
 returns-2 : tie.Need-returns-2
 returns-2 c = λ o e. rw (c .if1 .left)
 

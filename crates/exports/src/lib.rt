@@ -1,0 +1,202 @@
+// The boundary for tests in Rust: each operation with its answer as one number.
+ghost use mathlib.Core.Path.{_≡_};
+ghost use mathlib.Core.Option.{none};
+ghost use Prim.Native.Nat.{_≤_};
+ghost use lib.ListN.{length};
+ghost use Rattle.trace.specs.Letter.{mostLetters};
+ghost use Rattle.rows.specs.Rows.{Few};
+ghost use Rattle.trace.specs.Moments.{letterAt, size, found};
+ghost use Rattle.table.specs.Answer.{checked};
+ghost use Rattle.psl.specs.Check.{pslRefusal};
+ghost use Rattle.ltl.specs.Check.{ltlRefusal};
+ghost use Rattle.translate.specs.declared.Translation.{Translation};
+ghost use Rattle.translate.specs.Answer.{Delivers};
+ghost use Rattle.verdict.specs.declared.Verdict.{Verdict};
+ghost use Rattle.verdict.specs.Verdict.{PslJudges, LtlJudges};
+ghost use Rattle.table.specs.Node.{node};
+ghost use Rattle.lines.specs.declared.formula.Line.{Line};
+ghost use Rattle.lines.specs.declared.traces.TraceLine.{TraceLine};
+ghost use Rattle.lines.specs.Spelling.{nodeLine};
+ghost use Rattle.lines.specs.FormulaAnswer.{FormulaAnswer};
+ghost use Rattle.lines.specs.TraceAnswer.{TraceAnswer};
+ghost use Rattle.lines.specs.NodeAnswer.{nodeAnswer, nodeList};
+ghost use Rattle.exports.specs.Coded.{foundCode, checkedCode, translationCode, verdictCode, formulaCode, traceCode, nodeCode};
+use lines::formula::Line;
+use lines::nodes::NodeLine;
+use lines::traces::TraceLine;
+use table::Checked;
+use table::NodeNo;
+use trace::Found;
+use trace::Letter;
+use trace::Moment;
+use translate::Translation;
+use verdict::Verdict;
+
+fn found_code(a: Found) -> u64
+    ensures { λ r. ⌜ r ≡ foundCode a ⌝ }
+{
+    match a {
+        Found::Letter(x) => 256 + (x as u64),
+        Found::Refused(x) => x.0 as u64,
+    }
+}
+
+fn checked_code(a: Checked) -> u64
+    ensures { λ r. ⌜ r ≡ checkedCode a ⌝ }
+{
+    match a {
+        Checked::Accepted => 256,
+        Checked::Refused(x) => x.0 as u64,
+    }
+}
+
+fn verdict_code(a: Verdict) -> u64
+    ensures { λ r. ⌜ r ≡ verdictCode a ⌝ }
+{
+    match a {
+        Verdict::Yes => 257,
+        Verdict::No => 256,
+        Verdict::Refused(x) => x.0 as u64,
+    }
+}
+
+#[no_mangle]
+pub extern "C" fn brancadol_letter_at<'a>(
+    lead: &'a [Letter],
+    cycle: &'a [Letter],
+    moment: usize,
+) -> u64
+    ensures { λ r. ⌜ r ≡ foundCode (found (letterAt (now (lead .entry)) (now (cycle .entry)) moment)) ⌝ }
+{
+    found_code(trace::letter_at(lead, cycle, Moment(moment)))
+}
+
+// 256 and the length of the part.
+#[no_mangle]
+pub extern "C" fn brancadol_rest<'a>(
+    lead: &'a [Letter],
+    cycle: &'a [Letter],
+    moment: usize,
+) -> u64 {
+    256 + (trace::rest(lead, cycle, Moment(moment)).len() as u64)
+}
+
+#[no_mangle]
+pub extern "C" fn brancadol_check_psl(table: &[u16]) -> u64
+    ensures { λ r. ⌜ r ≡ checkedCode (checked (pslRefusal (now (table .entry)))) ⌝ }
+{
+    checked_code(psl::check_psl(table))
+}
+
+#[no_mangle]
+pub extern "C" fn brancadol_check_ltl(table: &[u16]) -> u64
+    ensures { λ r. ⌜ r ≡ checkedCode (checked (ltlRefusal (now (table .entry)))) ⌝ }
+{
+    checked_code(ltl::check_ltl(table))
+}
+
+#[no_mangle]
+pub extern "C" fn brancadol_psl_verdict(table: &[u16], lead: &[Letter], cycle: &[Letter]) -> u64
+    ensures { λ r. ⌜ ((v : Verdict) × PslJudges (now (table .entry)) (now (lead .entry)) (now (cycle .entry)) v × (r ≡ verdictCode v)) ⌝ }
+{
+    verdict_code(verdict::psl_verdict(table, lead, cycle))
+}
+
+#[no_mangle]
+pub extern "C" fn brancadol_ltl_verdict(table: &[u16], lead: &[Letter], cycle: &[Letter]) -> u64
+    ensures { λ r. ⌜ ((v : Verdict) × LtlJudges (now (table .entry)) (now (lead .entry)) (now (cycle .entry)) v × (r ≡ verdictCode v)) ⌝ }
+{
+    verdict_code(verdict::ltl_verdict(table, lead, cycle))
+}
+
+fn translation_code(a: Translation) -> u64
+    ensures { λ r. ⌜ r ≡ translationCode a ⌝ }
+{
+    match a {
+        Translation::Nodes(s) => 256 + (s as u64) % 65536,
+        Translation::Refused(x) => x.0 as u64,
+    }
+}
+
+#[no_mangle]
+pub extern "C" fn brancadol_translate(table: &[u16], out: &mut [u16]) -> u64
+    ensures { λ r. ⌜ ((a : Translation) × Delivers (now (table .entry)) (now (out .entry)) a (now (out .exit)) × (r ≡ translationCode a)) ⌝ }
+{
+    translation_code(translate::translate(table, out))
+}
+
+fn formula_code(a: Line) -> u64
+    ensures { λ r. ⌜ r ≡ formulaCode a ⌝ }
+{
+    match a {
+        Line::Nodes(n) => 256 + (n as u64) % 65536,
+        Line::Refused(x) => x.0 as u64,
+    }
+}
+
+#[no_mangle]
+pub extern "C" fn brancadol_read_formula(line: &[u8], out: &mut [u16]) -> u64
+    ensures { λ r. ⌜ ((a : Line) × FormulaAnswer (now (line .entry)) (now (out .entry)) a (now (out .exit)) × (r ≡ formulaCode a)) ⌝ }
+{
+    formula_code(lines::formula::read_formula(line, out))
+}
+
+fn trace_code(a: TraceLine) -> u64
+    ensures { λ r. ⌜ r ≡ traceCode a ⌝ }
+{
+    match a {
+        TraceLine::Letters { lead, cycle } => 256
+            + 65536 * ((lead as u64) % 65536)
+            + (cycle as u64) % 65536,
+        TraceLine::Refused(x) => x.0 as u64,
+    }
+}
+
+#[no_mangle]
+pub extern "C" fn brancadol_read_trace(
+    line: &[u8],
+    lead: &mut [Letter],
+    cycle: &mut [Letter],
+) -> u64
+    ensures { λ r. ⌜ ((a : TraceLine) × TraceAnswer (now (line .entry)) (now (lead .entry)) (now (cycle .entry)) a (now (lead .exit)) (now (cycle .exit)) × (r ≡ traceCode a)) ⌝ }
+{
+    trace_code(lines::traces::read_trace(line, lead, cycle))
+}
+
+fn node_code(a: NodeLine) -> u64
+    ensures { λ r. ⌜ r ≡ nodeCode a ⌝ }
+{
+    match a {
+        NodeLine::Bytes(n) => 256 + (n as u64) % 65536,
+        NodeLine::Refused(x) => x.0 as u64,
+    }
+}
+
+#[no_mangle]
+pub extern "C" fn brancadol_write_node(
+    own: u16,
+    kind: u16,
+    left: u16,
+    right: u16,
+    out: &mut [u8],
+) -> u64
+    ensures { λ r. ⌜ (r ≡ nodeCode (nodeAnswer own (node kind left right) (length (now (out .entry))))) × (now (out .exit) ≡ nodeList (nodeAnswer own (node kind left right) (length (now (out .entry)))) (nodeLine own (node kind left right)) (now (out .entry))) ⌝ }
+{
+    node_code(lines::nodes::write_node(NodeNo(own), kind, left, right, out))
+}
+
+// Below the check, for measuring: the caller lends accepted tables and at most 64 letters.
+#[no_mangle]
+pub extern "C" fn brancadol_psl_holds(table: &[u16], lead: &[Letter], cycle: &[Letter]) -> u64
+    requires { ⌜ (pslRefusal (now table) ≡ none) × (size (now lead) (now cycle) ≤ mostLetters) ⌝ }
+{
+    verdict::psl_holds(table, lead, cycle) as u64
+}
+
+// The same for an LTL table, with at least one letter.
+#[no_mangle]
+pub extern "C" fn brancadol_ltl_holds(table: &[u16], lead: &[Letter], cycle: &[Letter]) -> u64
+    requires { ⌜ (ltlRefusal (now table) ≡ none) × Few (now lead) (now cycle) ⌝ }
+{
+    verdict::ltl_holds(table, lead, cycle) as u64
+}
