@@ -16,9 +16,9 @@ use Rattle.table.specs.declared.Place.{Place}
 use Rattle.table.specs.Answer.{refused}
 use Rattle.table.specs.Node.{count, kindAt, leftAt, rightAt}
 use Rattle.table.specs.Check.{shapeOf, isBoolean, lowest, tableRefusal, total}
-use Rattle.table.proofs.CheckLaw.{both-true, unless-none, or-none, Sound, known-kind, table-sized, table-sound, lowest-some, none-below}
+use Rattle.table.proofs.CheckLaw.{unless-none, or-none, Sound, fit-below, known-kind, table-sized, table-sound, lowest-some, none-below}
 use Rattle.psl.specs.Check.{pslRules, one, names, namesAt, uses, useRefusal, rootRefusal, treeRefusal, pslRefusal}
-use Rattle.psl.specs.Counts.{Tallied}
+use Rattle.psl.specs.Counts.{Counted, Tallied}
 
 -- ── Counts ──
 
@@ -45,29 +45,22 @@ unfolding total
 uses-low t j zero = omega arith
 uses-low t j (suc i) = omega (arith, uses-low t j i, names-low t j i)
 
--- A place that holds n is counted, at m.
-add-use : (p : Place) (n i m a : ℕ) (u : ℕ → ℕ) (c : List ℕ) → m < length c → m ≡ cond (p .operand) n i → a ≡ one (p .operand)
-    → ((j : ℕ) → j < length c → getD c j 0 ≡ u j) → (j : ℕ) → j < length c → getD (set c m (getD c m 0 + a)) j 0 ≡ u j + names p n j
-add-use p n i m a u c h z e T j l =
-    elim (ℕ-discrete m j) [
-      | yes d ↦
-          subst (λ (k : ℕ). getD (set c m (getD c m 0 + a)) k 0 ≡ u k + names p n k) d
-          (getD-set-same c m (getD c m 0 + a) 0 h ∙ omega (arith, e, T m h, names-here (p .operand) n i m z))
-      | no d ↦ getD-set-other c m j (getD c m 0 + a) 0 (λ q. d (sym q)) ∙ omega (arith, T j l, names-there (p .operand) n i m j z d)
-    ]
-  where
-    names-here : (o : Bool) (n i m : ℕ) → m ≡ cond o n i → one (o && eqb n m) ≡ one o
-    names-here true n i m z = ap one (eq-eqb n m (sym z))
-    names-here false n i m z = refl
+-- A place that holds n is counted.
+module _ (p : Place) (n : ℕ) (c : List ℕ) where
+  pub counted-operand : p .operand ≡ true → n < length c → Counted p n c (set c n (getD c n 0 + 1))
+  counted-operand e h =
+      record {
+        same = length-set c n (getD c n 0 + 1);
+        more = λ j l. elim (ℕ-discrete n j) [
+          | yes d ↦
+              subst (λ (m : ℕ). getD (set c n (getD c n 0 + 1)) m 0 ≡ getD c m 0 + names p n m) d
+              (getD-set-same c n (getD c n 0 + 1) 0 h ∙ omega (arith, names-same (p .operand) n, ap one e))
+          | no d ↦ getD-set-other c n j (getD c n 0 + 1) 0 (λ q. d (sym q)) ∙ omega (arith, names-other (p .operand) n j d)
+        ];
+      }
 
-    names-there : (o : Bool) (n i m j : ℕ) → m ≡ cond o n i → (m ≡ j → ⊥) → one (o && eqb n j) ≡ 0
-    names-there true n i m j z d = ap one (ne-eqb n j (λ q. d (z ∙ q)))
-    names-there false n i m j z d = refl
-
--- What is counted is a node.
-place-low : (o : Bool) (m n i : ℕ) → n < cond o i m → cond o n i ≤ i
-place-low true m n i h = omega arith
-place-low false m n i h = omega arith
+  pub counted-other : p .operand ≡ false → Counted p n c c
+  counted-other e = record { same = refl; more = λ j l. let z : names p n j ≡ 0 = rw e in omega arith }
 
 -- Cleared counts, before the first node.
 pub untallied : (t : List ℕ) (n : ℕ) → tableRefusal pslRules t ≡ none → count t ≤ n → Tallied t 0 (replicate n 0)
@@ -87,57 +80,37 @@ module _ {t : List ℕ} {i : ℕ} {c : List ℕ} (T : Tallied t i c) (h : i < co
   pub kind-low : kindAt t i < 11
   kind-low = known-kind pslRules (kindAt t i) (sound .kind)
 
-  -- The counts that the left and the right place add to.
-  abbrev pub Left : ℕ → Type 0
-  Left l = l ≡ cond (shapeOf pslRules (kindAt t i) .0 .operand) (leftAt t i) i
-
-  abbrev pub Right : ℕ → Type 0
-  Right r = r ≡ cond (shapeOf pslRules (kindAt t i) .1 .operand) (rightAt t i) i
-
-  pub left-low : (l : ℕ) → Left l → l < length c
-  left-low l e =
-      let p = shapeOf pslRules (kindAt t i) .0 in
-      omega (arith, e, T .for-nodes, place-low (p .operand) (p .limit) (leftAt t i) i (sound .left .low))
-
-  pub right-low : (r : ℕ) → Right r → r < length c
-  right-low r e =
-      let q = shapeOf pslRules (kindAt t i) .1 in
-      omega (arith, e, T .for-nodes, place-low (q .operand) (q .limit) (rightAt t i) i (sound .right .low))
-
   few : i < 1024
   few = omega (arith, table-sized pslRules t (T .table) .low)
 
-  module _ (l : ℕ) (el : Left l) where
-    pub left-count : getD c l 0 + one (shapeOf pslRules (kindAt t i) .0 .operand) < 65536
-    left-count = omega (arith, few, T .counts l (left-low l el), uses-low t l i, one-low (shapeOf pslRules (kindAt t i) .0 .operand))
+  abbrev pub left : Place
+  left = shapeOf pslRules (kindAt t i) .0
 
-    module _ (a : ℕ) (ea : a ≡ one (shapeOf pslRules (kindAt t i) .0 .operand)) (r : ℕ) (er : Right r) where
-      abbrev d : List ℕ
-      d = set c l (getD c l 0 + a)
+  abbrev pub right : Place
+  right = shapeOf pslRules (kindAt t i) .1
 
-      half : (j : ℕ) → j < length c → getD d j 0 ≡ total (namesAt t j) i + names (shapeOf pslRules (kindAt t i) .0) (leftAt t i) j
-      half = add-use (shapeOf pslRules (kindAt t i) .0) (leftAt t i) i l a (λ j. total (namesAt t j) i) c (left-low l el) el ea (T .counts)
+  -- An operand's count has room for one more.
+  pub left-room : left .operand ≡ true → (leftAt t i < length c) × (getD c (leftAt t i) 0 < 65535)
+  left-room e =
+      let l : leftAt t i < length c = omega (arith, T .for-nodes, fit-below (sound .left) e) in
+      (l, omega (arith, few, T .counts (leftAt t i) l, uses-low t (leftAt t i) i))
 
-      pub right-in : r < length d
-      right-in = simp length-set (right-low r er)
+  module _ (d : List ℕ) (L : Counted left (leftAt t i) c d) where
+    pub right-room : right .operand ≡ true → (rightAt t i < length d) × (getD d (rightAt t i) 0 < 65535)
+    right-room e =
+        let r : rightAt t i < length c = omega (arith, T .for-nodes, fit-below (sound .right) e) in
+        (omega (arith, r, L .same), omega (arith, few, L .more (rightAt t i) r, T .counts (rightAt t i) r, uses-low t (rightAt t i) i, one-low (left .operand && eqb (leftAt t i) (rightAt t i))))
 
-      pub right-count : getD d r 0 + one (shapeOf pslRules (kindAt t i) .1 .operand) < 65536
-      right-count =
-          let h = shapeOf pslRules (kindAt t i) in
-          omega (arith, few, half r (right-low r er), uses-low t r i, one-low (h .0 .operand && eqb (leftAt t i) r), one-low (h .1 .operand))
-
-      pub tallied-next : (b : ℕ) → b ≡ one (shapeOf pslRules (kindAt t i) .1 .operand) → Tallied t (i + 1) (set d r (getD d r 0 + b))
-      unfolding total namesAt
-      tallied-next b eb =
-          let q = shapeOf pslRules (kindAt t i) .1 in
-          let z : length (set d r (getD d r 0 + b)) ≡ length c = simp length-set in
-          record {
-            table = T .table;
-            for-nodes = omega (arith, z, T .for-nodes);
-            counts = λ j l.
-                rw (add-one i)
-                (add-use q (rightAt t i) i r b _ d right-in er eb (λ j l. half j (simp length-set at l)) j (simp length-set (omega arith)) ∙ omega arith);
-          }
+    pub tallied-next : (e : List ℕ) → Counted right (rightAt t i) d e → Tallied t (i + 1) e
+    unfolding total namesAt
+    tallied-next e R =
+        record {
+          table = T .table;
+          for-nodes = omega (arith, R .same, L .same, T .for-nodes);
+          counts = λ j l.
+              let m : j < length c = omega (arith, R .same, L .same, l) in
+              rw (add-one i) (omega (arith, R .more j (omega (arith, m, L .same)), L .more j m, T .counts j m));
+        }
 
 -- ── The refusals after the nodes ──
 
