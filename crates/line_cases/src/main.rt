@@ -152,19 +152,30 @@ fn borders() {
 }
 
 // Own number, kind, left, right, and the answer.
-fn node_case(no: u16, kind: u16, left: u16, right: u16, out: &mut [u8]) {
-    let x = node_line(no, kind, left, right, out);
+fn node_case(no: u16, kind: u16, left: u16, right: u16) {
+    let mut out = [0u8; 40];
+    let x = node_line(no, kind, left, right, &mut out);
     show(&[no, kind, left, right, (x % 65536) as u16]);
 }
 
-// Four numbers a node, each written with room to spare.
-fn nodes(t: &[u16]) {
-    let mut out = [46u8; 40];
-    let mut i: usize = 0;
-    while i + 3 < t.len() {
-        node_case(t[i], t[i + 1], t[i + 2], t[i + 3], &mut out);
-        i += 4;
-    }
+fn node_cases() {
+    node_case(0, 0, 0, 0);
+    node_case(1, 2, 0, 0);
+    node_case(5, 6, 4, 3);
+    node_case(4095, 6, 4094, 4093);
+    node_case(4096, 0, 0, 0);
+    node_case(4096, 7, 0, 0);
+    node_case(5, 7, 0, 0);
+    node_case(5, 0, 1, 0);
+    node_case(5, 0, 0, 1);
+    node_case(5, 2, 4, 1);
+    node_case(5, 1, 31, 0);
+    node_case(5, 1, 32, 0);
+    node_case(5, 1, 32, 1);
+    node_case(5, 2, 5, 0);
+    node_case(5, 3, 4, 5);
+    node_case(5, 3, 5, 4);
+    node_case(0, 5, 0, 0);
 }
 
 // The line and the bytes after it, which stay; and a list that is one byte short, which stays whole.
@@ -281,81 +292,6 @@ fn trace_cases() {
 (lasso () (0)) \n(Finite)
 (fin
 ",
-    );
-}
-
-fn node_cases() {
-    nodes(
-        &[
-            0u16,
-            0,
-            0,
-            0,
-            1,
-            2,
-            0,
-            0,
-            4095,
-            6,
-            4094,
-            4093,
-            4096,
-            0,
-            0,
-            0,
-            4096,
-            7,
-            0,
-            0,
-            5,
-            6,
-            4,
-            3,
-            5,
-            7,
-            0,
-            0,
-            5,
-            0,
-            1,
-            0,
-            5,
-            0,
-            0,
-            1,
-            5,
-            2,
-            4,
-            1,
-            5,
-            1,
-            31,
-            0,
-            5,
-            1,
-            32,
-            0,
-            5,
-            1,
-            32,
-            1,
-            5,
-            2,
-            5,
-            0,
-            5,
-            3,
-            4,
-            5,
-            5,
-            3,
-            5,
-            4,
-            0,
-            5,
-            0,
-            0,
-        ],
     );
 }
 
