@@ -11,16 +11,14 @@ use lib.Dec.{eqb, leb}
 use lib.ListN.{length, getD, set, length-set, replicate, length-replicate, getD-replicate}
 use lib.Seq.{getD-set-same, getD-set-other}
 use borrow.Author.Tests.{eq-eqb, ne-eqb, eqb-true, leb-true, not-true}
-use Rattle.trace.specs.Letter.{signals}
 use Rattle.trace.specs.declared.Refusal.{Refusal}
 use Rattle.table.specs.declared.Place.{Place}
 use Rattle.table.specs.Answer.{refused}
 use Rattle.table.specs.Node.{count, kindAt, leftAt, rightAt}
 use Rattle.table.specs.Check.{shapeOf, isBoolean, lowest, tableRefusal, total}
-use Rattle.table.proofs.CheckLaw.{both-true, unless-none, or-none, Sound, known-kind, table-sized, table-sound, lowest-some, none-below}
-use Rattle.table.proofs.KindLaw.{every}
+use Rattle.table.proofs.CheckLaw.{unless-none, or-none, Sound, fit-below, known-kind, table-sized, table-sound, lowest-some, none-below}
 use Rattle.psl.specs.Check.{pslRules, one, names, namesAt, uses, useRefusal, rootRefusal, treeRefusal, pslRefusal}
-use Rattle.psl.specs.Counts.{Tallied}
+use Rattle.psl.specs.Counts.{Counted, Tallied}
 
 -- ── Counts ──
 
@@ -48,38 +46,29 @@ uses-low t j zero = omega arith
 uses-low t j (suc i) = omega (arith, uses-low t j i, names-low t j i)
 
 -- A place that holds n is counted.
-add-use : (p : Place) (n a : ℕ) (u : ℕ → ℕ) (c : List ℕ) → n < length c → a ≡ one (p .operand)
-    → ((j : ℕ) → j < length c → getD c j 0 ≡ u j) → (j : ℕ) → j < length c → getD (set c n (getD c n 0 + a)) j 0 ≡ u j + names p n j
-add-use p n a u c h e T j l =
-    elim (ℕ-discrete n j) [
-      | yes d ↦
-          subst (λ (m : ℕ). getD (set c n (getD c n 0 + a)) m 0 ≡ u m + names p n m) d
-          (getD-set-same c n (getD c n 0 + a) 0 h ∙ omega (arith, e, T n h, names-same (p .operand) n))
-      | no d ↦ getD-set-other c n j (getD c n 0 + a) 0 (λ q. d (sym q)) ∙ omega (arith, T j l, names-other (p .operand) n j d)
-    ]
+module _ (p : Place) (n : ℕ) (c : List ℕ) where
+  pub counted-operand : p .operand ≡ true → n < length c → Counted p n c (set c n (getD c n 0 + 1))
+  counted-operand e h =
+      record {
+        same = length-set c n (getD c n 0 + 1);
+        more = λ j l. elim (ℕ-discrete n j) [
+          | yes d ↦
+              subst (λ (m : ℕ). getD (set c n (getD c n 0 + 1)) m 0 ≡ getD c m 0 + names p n m) d
+              (getD-set-same c n (getD c n 0 + 1) 0 h ∙ omega (arith, names-same (p .operand) n, ap one e))
+          | no d ↦ getD-set-other c n j (getD c n 0 + 1) 0 (λ q. d (sym q)) ∙ omega (arith, names-other (p .operand) n j d)
+        ];
+      }
 
--- Every place's number is an index of the counts.
-limits : (k : ℕ) → k < 11 → (shapeOf pslRules k .0 .limit ≤ signals) × (shapeOf pslRules k .1 .limit ≤ signals)
-limits k h =
-    let l = shapeOf pslRules k .0 .limit in
-    let r = shapeOf pslRules k .1 .limit in
-    let b =
-    both-true (leb l signals) (leb r signals)
-    (every (λ k. leb (shapeOf pslRules k .0 .limit) signals && leb (shapeOf pslRules k .1 .limit) signals) 11 refl k h) in
-    (leb-true l signals (b .0), leb-true r signals (b .1))
-
-place-low : (o : Bool) (m n i z : ℕ) → n < cond o i m → i < z → m ≤ z → n < z
-place-low true m n i z h a b = omega arith
-place-low false m n i z h a b = omega arith
+  pub counted-other : p .operand ≡ false → Counted p n c c
+  counted-other e = record { same = refl; more = λ j l. let z : names p n j ≡ 0 = rw e in omega arith }
 
 -- Cleared counts, before the first node.
-pub untallied : (t : List ℕ) (n : ℕ) → tableRefusal pslRules t ≡ none → count t ≤ n → signals ≤ n → Tallied t 0 (replicate n 0)
+pub untallied : (t : List ℕ) (n : ℕ) → tableRefusal pslRules t ≡ none → count t ≤ n → Tallied t 0 (replicate n 0)
 unfolding total
-untallied t n e h l =
+untallied t n e h =
     record {
       table = e;
       for-nodes = simp length-replicate h;
-      for-signals = simp length-replicate l;
       counts = λ j g. getD-replicate n j 0 0 (simp length-replicate at g);
     }
 
@@ -91,49 +80,36 @@ module _ {t : List ℕ} {i : ℕ} {c : List ℕ} (T : Tallied t i c) (h : i < co
   pub kind-low : kindAt t i < 11
   kind-low = known-kind pslRules (kindAt t i) (sound .kind)
 
-  pub left-low : leftAt t i < length c
-  left-low =
-      let p = shapeOf pslRules (kindAt t i) .0 in
-      place-low (p .operand) (p .limit) (leftAt t i) i (length c) (sound .left .low) (omega (arith, T .for-nodes)) (omega (arith, T .for-signals, limits (kindAt t i) kind-low .0))
-
-  pub right-low : rightAt t i < length c
-  right-low =
-      let q = shapeOf pslRules (kindAt t i) .1 in
-      place-low (q .operand) (q .limit) (rightAt t i) i (length c) (sound .right .low) (omega (arith, T .for-nodes)) (omega (arith, T .for-signals, limits (kindAt t i) kind-low .1))
-
   few : i < 1024
   few = omega (arith, table-sized pslRules t (T .table) .low)
 
-  pub left-count : getD c (leftAt t i) 0 + one (shapeOf pslRules (kindAt t i) .0 .operand) < 65536
-  left-count = omega (arith, few, T .counts (leftAt t i) left-low, uses-low t (leftAt t i) i, one-low (shapeOf pslRules (kindAt t i) .0 .operand))
+  abbrev pub left : Place
+  left = shapeOf pslRules (kindAt t i) .0
 
-  module _ (a : ℕ) (ea : a ≡ one (shapeOf pslRules (kindAt t i) .0 .operand)) where
-    abbrev d : List ℕ
-    d = set c (leftAt t i) (getD c (leftAt t i) 0 + a)
+  abbrev pub right : Place
+  right = shapeOf pslRules (kindAt t i) .1
 
-    half : (j : ℕ) → j < length c → getD d j 0 ≡ total (namesAt t j) i + names (shapeOf pslRules (kindAt t i) .0) (leftAt t i) j
-    half = add-use (shapeOf pslRules (kindAt t i) .0) (leftAt t i) a (λ j. total (namesAt t j) i) c left-low ea (T .counts)
+  -- An operand's count has room for one more.
+  pub left-room : left .operand ≡ true → (leftAt t i < length c) × (getD c (leftAt t i) 0 < 65535)
+  left-room e =
+      let l : leftAt t i < length c = omega (arith, T .for-nodes, fit-below (sound .left) e) in
+      (l, omega (arith, few, T .counts (leftAt t i) l, uses-low t (leftAt t i) i))
 
-    pub right-in : rightAt t i < length d
-    right-in = simp length-set right-low
+  module _ (d : List ℕ) (L : Counted left (leftAt t i) c d) where
+    pub right-room : right .operand ≡ true → (rightAt t i < length d) × (getD d (rightAt t i) 0 < 65535)
+    right-room e =
+        let r : rightAt t i < length c = omega (arith, T .for-nodes, fit-below (sound .right) e) in
+        (omega (arith, r, L .same), omega (arith, few, L .more (rightAt t i) r, T .counts (rightAt t i) r, uses-low t (rightAt t i) i, one-low (left .operand && eqb (leftAt t i) (rightAt t i))))
 
-    pub right-count : getD d (rightAt t i) 0 + one (shapeOf pslRules (kindAt t i) .1 .operand) < 65536
-    right-count =
-        let h = shapeOf pslRules (kindAt t i) in
-        omega (arith, few, half (rightAt t i) right-low, uses-low t (rightAt t i) i, one-low (h .0 .operand && eqb (leftAt t i) (rightAt t i)), one-low (h .1 .operand))
-
-    pub tallied-next : (b : ℕ) → b ≡ one (shapeOf pslRules (kindAt t i) .1 .operand) → Tallied t (i + 1) (set d (rightAt t i) (getD d (rightAt t i) 0 + b))
+    pub tallied-next : (e : List ℕ) → Counted right (rightAt t i) d e → Tallied t (i + 1) e
     unfolding total namesAt
-    tallied-next b eb =
-        let q = shapeOf pslRules (kindAt t i) .1 in
-        let z : length (set d (rightAt t i) (getD d (rightAt t i) 0 + b)) ≡ length c = simp length-set in
+    tallied-next e R =
         record {
           table = T .table;
-          for-nodes = omega (arith, z, T .for-nodes);
-          for-signals = omega (arith, z, T .for-signals);
+          for-nodes = omega (arith, R .same, L .same, T .for-nodes);
           counts = λ j l.
-              rw (add-one i)
-              (add-use q (rightAt t i) b _ d right-in eb (λ j l. half j (simp length-set at l)) j (simp length-set (omega arith)) ∙ omega arith);
+              let m : j < length c = omega (arith, R .same, L .same, l) in
+              rw (add-one i) (omega (arith, R .more j (omega (arith, m, L .same)), L .more j m, T .counts j m));
         }
 
 -- ── The refusals after the nodes ──

@@ -10,12 +10,15 @@ use table::Shape;
 use table::UNUSED;
 use trace::Refusal;
 ghost use mathlib.Core.Path.{_≡_};
+ghost use mathlib.Core.Bool.{true};
+ghost use Prim.Native.Nat.{_<_};
+ghost use lib.ListN.{length, getD};
 ghost use mathlib.Core.Option.{none};
 ghost use Rattle.table.specs.Answer.{checked};
 ghost use Rattle.table.specs.Node.{count};
 ghost use Rattle.table.specs.Check.{tableRefusal};
-ghost use Rattle.psl.specs.Check.{pslRules, one, treeRefusal, pslRefusal};
-ghost use Rattle.psl.specs.Counts.{Tallied};
+ghost use Rattle.psl.specs.Check.{pslRules, treeRefusal, pslRefusal};
+ghost use Rattle.psl.specs.Counts.{Counted, Tallied};
 
 // What stands left and right, kind by kind. The first four kinds are Booleans, the others formulas.
 pub const PSL: Rules = Rules {
@@ -45,14 +48,17 @@ pub const PSL: Rules = Rules {
     },
 };
 
-// How often a place that holds some number names a node of that number.
-fn operands(p: Place) -> u16
-    ensures { λ r. ⌜ r ≡ one (p .operand) ⌝ }
+// A place that holds n is counted: if that is an operand, it is used once more.
+fn count_place(p: Place, n: u16, c: &mut [u16])
+    requires { ⌜ (p .operand ≡ true → (n < length (now c)) × (getD (now c) n 0 < 65535)) ⌝ }
+    ensures { λ _. ⌜ Counted p n (now (c .entry)) (now (c .exit)) ⌝ }
 {
-    p.operand as u16
+    if p.operand {
+        c[n as usize] += 1;
+    }
 }
 
-// How often each node is an operand, counted from nothing. A place that is no operand's adds 0 wherever it points.
+// How often each node is an operand, counted from nothing.
 fn count_uses(t: &[u16], c: &mut [u16])
     requires { ⌜ Tallied (now t) 0 (now c) ⌝ }
     ensures { λ _. ⌜ Tallied (now (t .entry)) (count (now (t .entry))) (now (c .exit)) ⌝ }
@@ -62,13 +68,11 @@ fn count_uses(t: &[u16], c: &mut [u16])
     let mut i: usize = 0;
     while i < n {
         let k = t[3 * i] as usize;
-        let l = t[3 * i + 1] as usize;
-        let r = t[3 * i + 2] as usize;
         let h = rules.shapes[k];
         let p = h.0;
         let q = h.1;
-        c[l] += operands(p);
-        c[r] += operands(q);
+        count_place(p, t[3 * i + 1], &mut *c);
+        count_place(q, t[3 * i + 2], &mut *c);
         i += 1;
     }
 }

@@ -1,10 +1,11 @@
 -- Next on a row: the operand's row shifted by one, and on a loop its bit at the loop's start for the last.
 use mathlib.Core.Path.{_≡_, ap, ap₂, _∙_}
-use mathlib.Core.Bool.{false, _||_, or-false}
+use mathlib.Core.Bool.{Bool, false, _&&_, _||_, and-true, and-false, or-false}
 use mathlib.Core.Logic.{_↔_}
 use mathlib.Core.List.{List}
 use Prim.Native.Nat.{ℕ, suc, _+_, _-_, _*_, _/_, _%_, _^_, _≤_, _<_}
 use native.Mathlib.Omega.{arith}
+use native.Mathlib.Decide.{decLt}
 use lib.Dec.{T, ltb}
 use lib.Bits.{bitAnd, bitOr}
 use lib.ListN.{length}
@@ -13,7 +14,7 @@ use Rattle.trace.specs.Moments.{letterAt, size, InTrace}
 use Rattle.ltl.specs.Tree.{Ltl, lnext}
 use Rattle.ltl.specs.Meaning.{LtlHolds}
 use Rattle.rows.specs.Rows.{place, Tells}
-use Rattle.rows.proofs.BitLaw.{bit-or, bit-lowest, bit-shl, bit-shl-low, bit-half, kept, cleared}
+use Rattle.rows.proofs.BitLaw.{bit-and, bit-ones, bit-or, bit-shl, bit-shl-low, bit-half, kept, cleared}
 use Rattle.rows.proofs.PlaceLaw.{Next, on, round, end, next}
 
 -- Row w has next where row a has the operand, on a trace of p letters before the loop and n in all.
@@ -40,9 +41,12 @@ module _ (keep n : ℕ) (mask : (m : ℕ) → bit keep m ≡ ltb m n) (a p : ℕ
   abbrev pub later : ℕ
   later = bitAnd a keep / 2 ^ 1
 
-  -- The bit at the loop's start, brought to the last letter.
+  -- The bit at the loop's start alone, then brought to the last letter.
+  abbrev alone : ℕ
+  alone = bitAnd a (1 * 2 ^ p % 2 ^ mostLetters)
+
   abbrev pub first : ℕ
-  first = bitAnd (a / 2 ^ p) 1 * 2 ^ (n - 1) % 2 ^ mostLetters
+  first = alone * 2 ^ (n - 1 - p) % 2 ^ mostLetters
 
   later-inner : (m : ℕ) → m + 1 < n → bit later m ≡ bit a (m + 1)
   later-inner m h = bit-half (bitAnd a keep) m ∙ kept keep n mask a (m + 1) h
@@ -53,16 +57,33 @@ module _ (keep n : ℕ) (mask : (m : ℕ) → bit keep m ≡ ltb m n) (a p : ℕ
   pub shifted-ended : n ≤ p → Shifted p n a later
   shifted-ended q = record { inner = later-inner; looped = λ l m h. absurd (omega arith); ended = λ e. later-last }
 
-  pub shifted-looped : p < n → n ≤ mostLetters → Shifted p n a (bitOr later first)
-  shifted-looped q most =
-      record {
-        inner = λ m h.
-            bit-or later first m
-            ∙ ap₂ _||_ (later-inner m h) (bit-shl-low (bitAnd (a / 2 ^ p) 1) (n - 1) mostLetters m (omega arith) (omega arith))
-            ∙ or-false (bit a (m + 1));
-        looped = λ l m h.
-            let e : m ≡ n - 1 + 0 = omega arith in
-            bit-or later first m
-            ∙ ap₂ _||_ (later-last m h) (ap (bit first) e ∙ bit-shl (bitAnd (a / 2 ^ p) 1) (n - 1) mostLetters 0 (omega arith) ∙ bit-lowest a p);
-        ended = λ e m h. absurd (omega arith);
-      }
+  module _ (q : p < n) (most : n ≤ mostLetters) where
+    alone-low : (m : ℕ) → m < p → bit alone m ≡ false
+    alone-low m h = bit-and a _ m ∙ ap (λ (b : Bool). bit a m && b) (bit-shl-low 1 p mostLetters m h (omega arith)) ∙ and-false (bit a m)
+
+    alone-there : bit alone p ≡ bit a p
+    alone-there =
+        let e : p ≡ p + 0 = omega arith in
+        bit-and a _ p ∙ ap (λ (b : Bool). bit a p && b) (ap (bit (1 * 2 ^ p % 2 ^ mostLetters)) e ∙ bit-shl 1 p mostLetters 0 (omega arith) ∙ bit-ones 1 0 (omega arith)) ∙ and-true (bit a p)
+
+    first-inner : (m : ℕ) → m + 1 < n → bit first m ≡ false
+    first-inner m h =
+        elim (decLt m (n - 1 - p)) [
+          | yes l ↦ bit-shl-low alone (n - 1 - p) mostLetters m l (omega arith)
+          | no l ↦
+              let e : m ≡ n - 1 - p + (m - (n - 1 - p)) = omega arith in
+              ap (bit first) e ∙ bit-shl alone (n - 1 - p) mostLetters (m - (n - 1 - p)) (omega arith) ∙ alone-low (m - (n - 1 - p)) (omega arith)
+        ]
+
+    first-last : (m : ℕ) → m + 1 ≡ n → bit first m ≡ bit a p
+    first-last m h =
+        let e : m ≡ n - 1 - p + p = omega arith in
+        ap (bit first) e ∙ bit-shl alone (n - 1 - p) mostLetters p (omega arith) ∙ alone-there
+
+    pub shifted-looped : Shifted p n a (bitOr later first)
+    shifted-looped =
+        record {
+          inner = λ m h. bit-or later first m ∙ ap₂ _||_ (later-inner m h) (first-inner m h) ∙ or-false (bit a (m + 1));
+          looped = λ l m h. bit-or later first m ∙ ap₂ _||_ (later-last m h) (first-last m h);
+          ended = λ e m h. absurd (omega arith);
+        }

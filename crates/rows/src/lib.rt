@@ -70,7 +70,7 @@ pub fn next_row(a: Row, start: usize, len: usize) -> Row
 {
     let later = (a & mask(len)) >> 1;
     if start < len {
-        later | (((a >> start) & 1) << (len - 1))
+        later | ((a & (1 << start)) << (len - 1 - start))
     } else {
         later
     }

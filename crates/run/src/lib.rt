@@ -1,4 +1,7 @@
 // What a run answers to its lines: the first is a formula, each later one a trace.
+pub mod stream;
+mod text;
+
 ghost use Rattle.run.specs.Run.{FirstAnswer, LaterAnswer};
 use lines::formula::Line;
 use lines::traces::TraceLine;

@@ -1,6 +1,6 @@
 -- Laws of the check that both tables share: when a node is refused, which refusal decides, and what a table that is not refused is like.
 use mathlib.Core.Path.{_≡_, refl, sym, ap, _∙_, subst}
-use mathlib.Core.Bool.{Bool, true, false, not, cond, _&&_, _||_, Bool·beq}
+use mathlib.Core.Bool.{Bool, true, false, not, cond, _&&_, _||_, and-true, Bool·beq}
 use mathlib.Core.Option.{Option, none, some}
 use mathlib.Core.List.{List}
 use Prim.Native.Nat.{ℕ, zero, suc, _+_, _*_, _/_, _%_, _≤_, _<_}
@@ -9,7 +9,7 @@ use native.Mathlib.Numerals.{add-one}
 use native.Mathlib.Decide.{decLt, ℕ-discrete}
 use lib.Dec.{eqb, ltb, leb}
 use lib.ListN.{length}
-use borrow.Author.Tests.{lt-ltb, eq-eqb, ne-eqb, eqb-true, ltb-true, leb-true}
+use borrow.Author.Tests.{lt-ltb, le-ltb, eq-eqb, ne-eqb, eqb-true, ltb-true, leb-true}
 use Rattle.trace.specs.declared.Refusal.{Refusal}
 use Rattle.table.specs.declared.Place.{Place}
 use Rattle.table.specs.declared.Shape.{Shape}
@@ -93,6 +93,21 @@ sort-is true false true e d = e
 sort-is true false false e d = refl
 sort-is false b m e d = absurd (not-both true refl (sym d))
 
+-- All tests as the code makes them: by no kind where there are no Booleans, by the limit alone where there is no operand.
+pub no-booleans : (p : Place) (n i k m : ℕ) → m ≡ 0 → allFit p n i false ≡ allFit p n i (ltb k m)
+no-booleans p n i k m e = rw (e, le-ltb k 0 (omega arith))
+
+module _ (p : Place) (n i : ℕ) (b : Bool) where
+  pub no-operand : p .operand ≡ false → ltb n (p .limit) ≡ allFit p n i b
+  no-operand e = rw e (sym (and-true (ltb n (p .limit))))
+
+  module _ (e : p .operand ≡ true) where
+    pub not-below : i ≤ n → false ≡ allFit p n i b
+    not-below h = rw (e, le-ltb n i h)
+
+    pub below-user : n < i → Bool·beq b (p .boolean) ≡ allFit p n i b
+    below-user h = rw (e, lt-ltb n i h)
+
 pub fit-sort : {p : Place} {n i : ℕ} {b : Bool} → Fits p n i b → p .operand ≡ true → b ≡ p .boolean
 fit-sort {p} {n} {i} {b} f d = sort-is (p .operand) b (p .boolean) (f .sort) d
 
@@ -165,21 +180,23 @@ module _ (R : Rules) (t : List ℕ) (i a b : ℕ) (ea : a ≡ kindAt t (leftAt t
   unfolding refusalAt
   read-node = rw (ea, eb)
 
+-- All tests of both places at once, as the loop makes them.
+module _ (R : Rules) (t : List ℕ) (i : ℕ) where
   abbrev Fast : Bool
   Fast =
       let h = shapeOf R (kindAt t i) in
-      allFit (h .0) (leftAt t i) i (ltb a (R .booleans)) && allFit (h .1) (rightAt t i) i (ltb b (R .booleans))
+      allFit (h .0) (leftAt t i) i (isBoolean R t (leftAt t i)) && allFit (h .1) (rightAt t i) i (isBoolean R t (rightAt t i))
 
   pub fast-none : known R (kindAt t i) ≡ true → Fast ≡ true → refusalAt R t i ≡ none
   fast-none k f =
       let h = shapeOf R (kindAt t i) in
-      let c = both-true (allFit (h .0) (leftAt t i) i (ltb a (R .booleans))) _ f in
-      node-none R t i record { kind = k; left = rw (← ea) (all-fits _ _ _ _ (c .0)); right = rw (← eb) (all-fits _ _ _ _ (c .1)) }
+      let c = both-true (allFit (h .0) (leftAt t i) i (isBoolean R t (leftAt t i))) _ f in
+      node-none R t i record { kind = k; left = all-fits _ _ _ _ (c .0); right = all-fits _ _ _ _ (c .1) }
 
   pub fast-some : Fast ≡ false → refusalAt R t i ≡ none → ⊥
   fast-some f e =
       let s = node-sound R t i e in
-      let g : Fast ≡ true = rw (ea, eb, fits-all _ _ _ _ (s .left), fits-all _ _ _ _ (s .right)) in
+      let g : Fast ≡ true = rw (fits-all _ _ _ _ (s .left), fits-all _ _ _ _ (s .right)) in
       not-both Fast g f
 
 pub unknown-some : (R : Rules) (t : List ℕ) (i : ℕ) → known R (kindAt t i) ≡ false → refusalAt R t i ≡ none → ⊥

@@ -2,12 +2,13 @@
 use trace::Refusal;
 ghost use mathlib.Core.Path.{_≡_};
 ghost use mathlib.Core.Bool.{cond, _&&_};
-ghost use mathlib.Core.Option.{Option};
-ghost use Prim.Native.Nat.{_<_};
+ghost use mathlib.Core.Option.{Option, none};
+ghost use Prim.Native.Nat.{_<_, _≤_};
+ghost use lib.Dec.{ltb};
 ghost use Rattle.trace.specs.declared.Refusal.{Refusal};
-ghost use Rattle.table.specs.Node.{node, kindAt};
+ghost use Rattle.table.specs.Node.{node, count, kindAt};
 ghost use Rattle.table.specs.Answer.{refused, checked};
-ghost use Rattle.table.specs.Check.{lengthFits, unusedFits, signalFits, operandFits, sortFits, allFit, unless, placesRefusal, nodeRefusal, tableRefusal};
+ghost use Rattle.table.specs.Check.{lengthFits, unusedFits, signalFits, operandFits, sortFits, allFit, unless, placesRefusal, nodeRefusal, refusalAt, lowest, tableRefusal};
 
 // The number of a node, counted from 0 along a table: never a point of time.
 pub struct NodeNo(pub u16);
@@ -118,27 +119,36 @@ fn bound(p: Place, i: u16) -> u16
     if p.operand { i } else { p.limit }
 }
 
-// All four tests at once, and for both places.
-fn place_fits(p: Place, n: u16, i: u16, b: bool) -> bool
-    ensures { λ r. ⌜ r ≡ allFit p n i b ⌝ }
-{
-    (n < bound(p, i)) & sort_fits(p, b)
-}
-
-fn places_fit(h: Shape, i: u16, l: u16, r: u16, lb: bool, rb: bool) -> bool
-    ensures { λ x. ⌜ x ≡ (allFit (h .0) l i lb && allFit (h .1) r i rb) ⌝ }
-{
-    let p = h.0;
-    let q = h.1;
-    place_fits(p, l, i, lb) & place_fits(q, r, i, rb)
-}
-
 // The kind of a node, 0 past the last.
 fn kind_at(t: &[u16], n: u16) -> u16
     ensures { λ r. ⌜ r ≡ kindAt (now (t .entry)) n ⌝ }
 {
     let at = 3 * n as usize;
     if at < t.len() { t[at] } else { 0 }
+}
+
+// All four tests at once, and for both places. A kind is read only where an operand can be of the wrong sort; without Booleans there is no branch.
+fn place_fits(p: Place, n: u16, i: u16, t: &[u16], booleans: u16) -> bool
+    ensures { λ r. ⌜ r ≡ allFit p n i (ltb (kindAt (now (t .entry)) n) booleans) ⌝ }
+{
+    if booleans == 0 {
+        return (n < bound(p, i)) & sort_fits(p, false);
+    }
+    if !p.operand {
+        return n < p.limit;
+    }
+    if i <= n {
+        return false;
+    }
+    (kind_at(t, n) < booleans) == p.boolean
+}
+
+fn places_fit(h: Shape, i: u16, l: u16, r: u16, t: &[u16], booleans: u16) -> bool
+    ensures { λ x. ⌜ x ≡ (allFit (h .0) l i (ltb (kindAt (now (t .entry)) l) booleans) && allFit (h .1) r i (ltb (kindAt (now (t .entry)) r) booleans)) ⌝ }
+{
+    let p = h.0;
+    let q = h.1;
+    place_fits(p, l, i, t, booleans) & place_fits(q, r, i, t, booleans)
 }
 
 // The refusal of that number unless a test was passed, then what the later tests answer.
@@ -190,6 +200,32 @@ pub fn check_node(rules: Rules, i: NodeNo, k: u16, l: u16, r: u16, lb: bool, rb:
     check_places(x, h, i.0, l, r, lb, rb)
 }
 
+// The lowest node that is refused, or how many nodes there are.
+fn first_refused(rules: Rules, t: &[u16]) -> usize
+    requires { ⌜ count (now t) < 65536 ⌝ }
+    ensures { λ i. ⌜ (lowest (refusalAt rules (now (t .entry))) i ≡ none)
+        × (i ≤ count (now (t .entry)))
+        × (i < count (now (t .entry)) → refusalAt rules (now (t .entry)) i ≡ none → ⊥) ⌝ }
+{
+    let n = t.len() / 3;
+    let mut i: usize = 0;
+    while i < n {
+        let k = t[3 * i];
+        let l = t[3 * i + 1];
+        let r = t[3 * i + 2];
+        if !((k < rules.kinds) & (k < KINDS)) {
+            return i;
+        }
+        let at = k as usize;
+        let h = rules.shapes[at];
+        if !places_fit(h, i as u16, l, r, t, rules.booleans) {
+            return i;
+        }
+        i += 1;
+    }
+    n
+}
+
 // The check that both tables share.
 pub fn check_table(rules: Rules, t: &[u16]) -> Checked
     ensures { λ x. ⌜ x ≡ checked (tableRefusal rules (now (t .entry))) ⌝ }
@@ -198,24 +234,13 @@ pub fn check_table(rules: Rules, t: &[u16]) -> Checked
         let x = rules.numbers;
         return Checked::Refused(Refusal(x.length));
     }
-    let n = t.len() / 3;
-    let mut i: usize = 0;
-    while i < n {
-        let k = t[3 * i];
-        let l = t[3 * i + 1];
-        let r = t[3 * i + 2];
-        let lb = kind_at(t, l) < rules.booleans;
-        let rb = kind_at(t, r) < rules.booleans;
-        let own = i as u16;
-        if !((k < rules.kinds) & (k < KINDS)) {
-            return check_node(rules, NodeNo(own), k, l, r, lb, rb);
-        }
-        let at = k as usize;
-        let h = rules.shapes[at];
-        if !places_fit(h, own, l, r, lb, rb) {
-            return check_node(rules, NodeNo(own), k, l, r, lb, rb);
-        }
-        i += 1;
+    let i = first_refused(rules, t);
+    if t.len() / 3 <= i {
+        return Checked::Accepted;
     }
-    Checked::Accepted
+    let l = t[3 * i + 1];
+    let r = t[3 * i + 2];
+    let lb = kind_at(t, l) < rules.booleans;
+    let rb = kind_at(t, r) < rules.booleans;
+    check_node(rules, NodeNo(i as u16), t[3 * i], l, r, lb, rb)
 }

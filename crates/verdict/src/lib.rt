@@ -3,7 +3,7 @@ ghost use mathlib.Core.Path.{_≡_};
 ghost use mathlib.Core.Bool.{cond};
 ghost use mathlib.Core.Option.{none};
 ghost use mathlib.Core.Logic.{_↔_};
-ghost use Prim.Native.Nat.{_-_, _<_, _≤_};
+ghost use Prim.Native.Nat.{_+_, _-_, _<_, _≤_};
 ghost use lib.Dec.{T};
 ghost use lib.ListN.{length, getD};
 ghost use Rattle.trace.specs.Letter.{signals, mostLetters};
@@ -97,20 +97,31 @@ fn on_empty(t: &[u16], i: NodeNo) -> bool
     }
 }
 
+// The row of node n, asked for node i's sake. Most nodes wait for the one just before: its row is at hand, `last`, and need not be read back.
+fn row_at(told: &[Row], n: u16, i: usize, last: Row) -> Row
+    requires { ⌜ (n < length (now told)) × (i ≡ n + 1 → last ≡ getD (now told) n 0) ⌝ }
+    ensures { λ w. ⌜ w ≡ getD (now (told .entry)) n 0 ⌝ }
+{
+    let at = n as usize;
+    if i == at + 1 { last } else { told[at] }
+}
+
 // The rows of all nodes of an LTL table, from node 0 up.
 fn fill_rows(t: &[u16], lead: &[Letter], cycle: &[Letter], told: &mut [Row])
     requires { ⌜ (ltlRefusal (now t) ≡ none) × Few (now lead) (now cycle) × (count (now t) ≤ length (now told)) × (signals ≤ length (now told)) ⌝ }
     ensures { λ _. ⌜ Tells (now (lead .entry)) (now (cycle .entry)) (getD (now (told .exit)) (count (now (t .entry)) - 1) 0) (treeOf (now (t .entry))) ⌝ }
 {
     let n = t.len() / 3;
+    let mut last: Row = 0;
     let mut i: usize = 0;
     while i < n {
         let kind = t[3 * i];
         let left = t[3 * i + 1];
         let right = t[3 * i + 2];
-        let a = told[left as usize];
-        let b = told[right as usize];
-        told[i] = rows::node_row(kind, left, a, b, lead, cycle);
+        let a = row_at(&*told, left, i, last);
+        let b = row_at(&*told, right, i, last);
+        last = rows::node_row(kind, left, a, b, lead, cycle);
+        told[i] = last;
         i += 1;
     }
 }

@@ -11,13 +11,13 @@ slice-aggregate-check-uses : tie.Need-slice-aggregate-check-uses
 slice-aggregate-check-uses c = search needs
 
 check-uses-requires : tie.Need-check-uses-requires
-check-uses-requires c κs = let st = c .before .before .before in untallied (st .args .t .now) 128 (st .pre) (omega arith) (omega arith)
+check-uses-requires c κs = let st = c .before .before .before in untallied (st .args .t .now) 128 (st .pre) (omega arith)
 
 slice-aggregate-check-uses-2 : tie.Need-slice-aggregate-check-uses-2
 slice-aggregate-check-uses-2 c = search needs
 
 check-uses-requires-2 : tie.Need-check-uses-requires-2
-check-uses-requires-2 c κs = let st = c .before .before .before in untallied (st .args .t .now) 1024 (st .pre) (table-sized pslRules _ (st .pre) .low) (omega arith)
+check-uses-requires-2 c κs = let st = c .before .before .before in untallied (st .args .t .now) 1024 (st .pre) (table-sized pslRules _ (st .pre) .low)
 
 returns : tie.Need-returns
 returns c = search needs

@@ -1,14 +1,12 @@
 -- `count_uses` counts the operands of one node after the other.
 use borrow.Author.Needs.{needs}
-use Prim.Native.Nat.{ℕ, _*_, _-_, _^_, _≤_, _<_}
-use mathlib.Core.Path.{_≡_, refl, subst}
+use Prim.Native.Nat.{ℕ, _-_, _≤_, _<_}
+use mathlib.Core.Path.{_≡_, refl, subst, _∙_}
 use native.Mathlib.Omega.{arith}
-use lib.ListN.{length, length-set}
-use Rattle.table.specs.Node.{count, kindAt}
-use Rattle.table.specs.Check.{shapeOf}
-use Rattle.psl.specs.Check.{pslRules, one}
+use lib.ListN.{length}
+use Rattle.table.specs.Node.{count}
 use Rattle.psl.specs.Counts.{Tallied}
-use Rattle.psl.proofs.CheckLaw.{kind-low, left-low, right-low, left-count, right-in, right-count, tallied-next}
+use Rattle.psl.proofs.CheckLaw.{kind-low, left-room, right-room, tallied-next}
 use Rattle.psl.proofs.count_uses.Statement.{statement}
 use Rattle.psl.proofs.count_uses.Tie as tie
 
@@ -25,20 +23,8 @@ tally u = u .before .loop .inv .2
 inside : (u : tie.In-loop Inv-loop μ-loop) → u .before .loop .i < count (u .before .before .before .before .args .t .now)
 inside u = omega arith
 
-tally-fits : (u : tie.In-loop Inv-loop μ-loop) → length (u .before .loop .c) * 2 < 2 ^ 63
-tally-fits u = let st = u .before .before .before .before in omega (arith, st .good .1 .0 .1, u .before .loop .inv .1)
-
--- After the left place was counted.
-abbrev left-turn : tie.After-slice-known2 Inv-loop μ-loop → tie.In-loop Inv-loop μ-loop
-left-turn c = c .before .before .before .before .before .before .before .before
-
-abbrev right-turn : tie.After-slice-known3 Inv-loop μ-loop → tie.In-loop Inv-loop μ-loop
-right-turn c = c .before .before .before .before .before .before .before .before .before .before
-
-left-is : (c : tie.After-slice-known3 Inv-loop μ-loop)
-    → let lp = right-turn c .before in
-    c .before .before .before .operands .result ≡ one (shapeOf pslRules (kindAt (lp .before .before .before .args .t .now) (lp .loop .i)) .0 .operand)
-left-is c = c .before .before .before .operands .ensures
+abbrev turn : tie.After-count-place-arg Inv-loop μ-loop → tie.In-loop Inv-loop μ-loop
+turn c = c .before .before .before .before .before .before
 
 loop-holds : tie.Need-loop-holds Inv-loop μ-loop
 loop-holds c = (omega arith, refl, c .before .before .pre)
@@ -55,71 +41,41 @@ shared-slice-read-k c = search needs
 cast-k : tie.Need-cast-k Inv-loop μ-loop
 cast-k c = let u = c .before in omega (arith, kind-low (tally u) (inside u))
 
-mul-l : tie.Need-mul-l Inv-loop μ-loop
-mul-l c = search needs
-
-add-l : tie.Need-add-l Inv-loop μ-loop
-add-l c = search needs
-
-mul-l-2 : tie.Need-mul-l-2 Inv-loop μ-loop
-mul-l-2 c = search needs
-
-shared-slice-read-l : tie.Need-shared-slice-read-l Inv-loop μ-loop
-shared-slice-read-l c = search needs
-
-cast-l : tie.Need-cast-l Inv-loop μ-loop
-cast-l c = let u = c .before .before in omega (arith, left-low (tally u) (inside u), c .before .before .before .before .before .before .good .1 .0 .1)
-
-mul-r : tie.Need-mul-r Inv-loop μ-loop
-mul-r c = search needs
-
-add-r : tie.Need-add-r Inv-loop μ-loop
-add-r c = search needs
-
-mul-r-2 : tie.Need-mul-r-2 Inv-loop μ-loop
-mul-r-2 c = search needs
-
-shared-slice-read-r : tie.Need-shared-slice-read-r Inv-loop μ-loop
-shared-slice-read-r c = search needs
-
-cast-r : tie.Need-cast-r Inv-loop μ-loop
-cast-r c = let u = c .before .before .before in omega (arith, right-low (tally u) (inside u))
-
 mul-h : tie.Need-mul-h Inv-loop μ-loop
-mul-h c = let u = c .before .before .before in omega (arith, kind-low (tally u) (inside u))
+mul-h c = let u = c .before in omega (arith, kind-low (tally u) (inside u))
 
 element-copy-out-h : tie.Need-element-copy-out-h Inv-loop μ-loop
-element-copy-out-h c = let u = c .before .before .before in kind-low (tally u) (inside u)
+element-copy-out-h c = let u = c .before in kind-low (tally u) (inside u)
 
-operands-requires : tie.Need-operands-requires Inv-loop μ-loop
-operands-requires c κs = search needs
+mul-count-place : tie.Need-mul-count-place Inv-loop μ-loop
+mul-count-place c = search needs
 
-mul-c : tie.Need-mul-c Inv-loop μ-loop
-mul-c c = let u = c .before .before .before .before .before .before .before in omega (arith, left-low (tally u) (inside u), tally-fits u)
+add-count-place : tie.Need-add-count-place Inv-loop μ-loop
+add-count-place c = search needs
 
-slice-read-c : tie.Need-slice-read-c Inv-loop μ-loop
-slice-read-c c = let u = left-turn c in left-low (tally u) (inside u)
+mul-count-place-2 : tie.Need-mul-count-place-2 Inv-loop μ-loop
+mul-count-place-2 c = search needs
 
-add-c : tie.Need-add-c Inv-loop μ-loop
-add-c c = let u = left-turn c in omega (arith, left-count (tally u) (inside u), c .before .operands .ensures)
+shared-slice-read-count-place : tie.Need-shared-slice-read-count-place Inv-loop μ-loop
+shared-slice-read-count-place c = search needs
 
-slice-write-c : tie.Need-slice-write-c Inv-loop μ-loop
-slice-write-c c = let u = left-turn c in left-low (tally u) (inside u)
+count-place-requires : tie.Need-count-place-requires Inv-loop μ-loop
+count-place-requires c κs = let u = turn c in left-room (tally u) (inside u)
 
-operands-requires-2 : tie.Need-operands-requires-2 Inv-loop μ-loop
-operands-requires-2 c κs = search needs
+mul-count-place-3 : tie.Need-mul-count-place-3 Inv-loop μ-loop
+mul-count-place-3 c = search needs
 
-mul-c-2 : tie.Need-mul-c-2 Inv-loop μ-loop
-mul-c-2 c = let u = c .before .before .before .before .before .before .before .before .before in omega (arith, right-low (tally u) (inside u), tally-fits u)
+add-count-place-2 : tie.Need-add-count-place-2 Inv-loop μ-loop
+add-count-place-2 c = search needs
 
-slice-read-c-2 : tie.Need-slice-read-c-2 Inv-loop μ-loop
-slice-read-c-2 c = let u = right-turn c in right-in (tally u) (inside u) _ (left-is c)
+mul-count-place-4 : tie.Need-mul-count-place-4 Inv-loop μ-loop
+mul-count-place-4 c = search needs
 
-add-c-2 : tie.Need-add-c-2 Inv-loop μ-loop
-add-c-2 c = let u = right-turn c in omega (arith, right-count (tally u) (inside u) _ (left-is c), c .before .operands2 .ensures)
+shared-slice-read-count-place-2 : tie.Need-shared-slice-read-count-place-2 Inv-loop μ-loop
+shared-slice-read-count-place-2 c = search needs
 
-slice-write-c-2 : tie.Need-slice-write-c-2 Inv-loop μ-loop
-slice-write-c-2 c = let u = right-turn c in right-in (tally u) (inside u) _ (left-is c)
+count-place-requires-2 : tie.Need-count-place-requires-2 Inv-loop μ-loop
+count-place-requires-2 c κs = let l = c .before .before .before .before in let u = turn (l .before) in right-room (tally u) (inside u) _ (l .count-place .ensures)
 
 add-i : tie.Need-add-i Inv-loop μ-loop
 add-i c = search needs
@@ -128,13 +84,23 @@ loop-less : tie.Need-loop-less Inv-loop μ-loop
 loop-less c = search needs
 
 loop-again : tie.Need-loop-again Inv-loop μ-loop
-loop-again c = let u = right-turn c in (omega arith, simp length-set (u .before .loop .inv .1), tallied-next (tally u) (inside u) _ (left-is c) _ (c .before .operands2 .ensures))
+loop-again c =
+    let r = c .before .before in
+    let l = r .before .before .before .before .before in
+    let u = turn (l .before) in
+    let L = l .count-place .ensures in
+    let R = r .count-place2 .ensures in
+    (omega arith, R .same ∙ L .same ∙ u .before .loop .inv .1, tallied-next (tally u) (inside u) _ L _ R)
 
 same-length : tie.Need-same-length Inv-loop μ-loop
 same-length c = c .before .loop .inv .1
 
 returns : tie.Need-returns Inv-loop μ-loop
-returns c = let lp = c .before in subst (λ (m : ℕ). Tallied (lp .before .before .before .args .t .now) m (lp .loop .c)) (let z : lp .loop .i ≡ count (lp .before .before .before .args .t .now) = omega arith in z) (lp .loop .inv .2)
+returns c =
+    let lp = c .before in
+    let t = lp .before .before .before .args .t .now in
+    let z : lp .loop .i ≡ count t = omega arith in
+    subst (λ (m : ℕ). Tallied t m (lp .loop .c)) z (lp .loop .inv .2)
 
 pub count-uses-spec : {M : Type 1} → statement M
 count-uses-spec =
@@ -147,28 +113,18 @@ count-uses-spec =
     mul-k-2
     shared-slice-read-k
     cast-k
-    mul-l
-    add-l
-    mul-l-2
-    shared-slice-read-l
-    cast-l
-    mul-r
-    add-r
-    mul-r-2
-    shared-slice-read-r
-    cast-r
     mul-h
     element-copy-out-h
-    operands-requires
-    mul-c
-    slice-read-c
-    add-c
-    slice-write-c
-    operands-requires-2
-    mul-c-2
-    slice-read-c-2
-    add-c-2
-    slice-write-c-2
+    mul-count-place
+    add-count-place
+    mul-count-place-2
+    shared-slice-read-count-place
+    count-place-requires
+    mul-count-place-3
+    add-count-place-2
+    mul-count-place-4
+    shared-slice-read-count-place-2
+    count-place-requires-2
     add-i
     loop-less
     loop-again

@@ -1,0 +1,140 @@
+-- `first_refused` passes the nodes that are not refused, and stops at the first that is.
+use borrow.Author.Needs.{needs}
+use Prim.Native.Nat.{ℕ, _-_, _≤_, _<_}
+use mathlib.Core.Path.{_≡_, sym, _∙_, subst}
+use borrow.Author.Tests.{not-true, not-false}
+use mathlib.Core.Option.{none}
+use native.Mathlib.Omega.{arith}
+use Rattle.table.specs.Node.{count, kindAt}
+use Rattle.table.specs.Check.{mostKinds, refusalAt, lowest}
+use Rattle.table.proofs.CheckLaw.{known-low, fast-none, fast-some, unknown-some, lowest-zero, lowest-next}
+use Rattle.table.proofs.first_refused.Statement.{statement}
+use Rattle.table.proofs.first_refused.Tie as tie
+
+abbrev Inv-loop : tie.InvT-loop
+Inv-loop t rules n i₀ i = (i ≤ n) × (lowest (refusalAt rules t) i ≡ none)
+
+abbrev μ-loop : tie.MeasureT-loop
+μ-loop t rules n i₀ i = n - i
+
+-- The kind of the node that was read is one of the table's.
+low-kind : (u : tie.Else1 Inv-loop μ-loop) → let lp = u .before .before .before .before .before in kindAt (lp .before .before .args .t .now) (lp .loop .i) < mostKinds
+low-kind u = let lp = u .before .before .before .before .before in known-low (lp .before .before .args .t1) _ (not-false _ (u .if1 .left))
+
+loop-holds : tie.Need-loop-holds Inv-loop μ-loop
+loop-holds c = (omega arith, lowest-zero _)
+
+mul-k : tie.Need-mul-k Inv-loop μ-loop
+mul-k c = search needs
+
+mul-k-2 : tie.Need-mul-k-2 Inv-loop μ-loop
+mul-k-2 c = search needs
+
+shared-slice-read-k : tie.Need-shared-slice-read-k Inv-loop μ-loop
+shared-slice-read-k c = search needs
+
+mul-l : tie.Need-mul-l Inv-loop μ-loop
+mul-l c = search needs
+
+add-l : tie.Need-add-l Inv-loop μ-loop
+add-l c = search needs
+
+mul-l-2 : tie.Need-mul-l-2 Inv-loop μ-loop
+mul-l-2 c = search needs
+
+shared-slice-read-l : tie.Need-shared-slice-read-l Inv-loop μ-loop
+shared-slice-read-l c = search needs
+
+mul-r : tie.Need-mul-r Inv-loop μ-loop
+mul-r c = search needs
+
+add-r : tie.Need-add-r Inv-loop μ-loop
+add-r c = search needs
+
+mul-r-2 : tie.Need-mul-r-2 Inv-loop μ-loop
+mul-r-2 c = search needs
+
+shared-slice-read-r : tie.Need-shared-slice-read-r Inv-loop μ-loop
+shared-slice-read-r c = search needs
+
+returns : tie.Need-returns Inv-loop μ-loop
+returns c =
+    let lp = c .before .before .before .before .before in
+    let a = lp .before .before .args in
+    (lp .loop .inv .1, lp .loop .inv .0, λ _. unknown-some (a .t1) (a .t .now) (lp .loop .i) (not-true _ (c .if1 .taken)))
+
+cast-at : tie.Need-cast-at Inv-loop μ-loop
+cast-at c = omega (arith, low-kind c)
+
+mul-h : tie.Need-mul-h Inv-loop μ-loop
+mul-h c = omega (arith, low-kind c)
+
+element-copy-out-h : tie.Need-element-copy-out-h Inv-loop μ-loop
+element-copy-out-h c = low-kind c
+
+cast-places-fit : tie.Need-cast-places-fit Inv-loop μ-loop
+cast-places-fit c = search needs
+
+places-fit-requires : tie.Need-places-fit-requires Inv-loop μ-loop
+places-fit-requires c κs = search needs
+
+returns-2 : tie.Need-returns-2 Inv-loop μ-loop
+returns-2 c =
+    let p = c .before in
+    let lp = p .before .before .before .before .before .before .before in
+    let a = lp .before .before .args in
+    (lp .loop .inv .1, lp .loop .inv .0, λ _. fast-some (a .t1) (a .t .now) (lp .loop .i) (sym (p .places-fit .ensures) ∙ not-true _ (c .if2 .taken)))
+
+add-i : tie.Need-add-i Inv-loop μ-loop
+add-i c = search needs
+
+loop-less : tie.Need-loop-less Inv-loop μ-loop
+loop-less c = search needs
+
+loop-again : tie.Need-loop-again Inv-loop μ-loop
+loop-again c =
+    let p = c .before in
+    let u = p .before .before in
+    let lp = u .before .before .before .before .before in
+    let a = lp .before .before .args in (
+      omega arith,
+      lowest-next (refusalAt (a .t1) (a .t .now)) (lp .loop .i) (lp .loop .inv .1)
+          (fast-none (a .t1) (a .t .now) (lp .loop .i) (not-false _ (u .if1 .left)) (sym (p .places-fit .ensures) ∙ not-false _ (c .if2 .left))),
+    )
+
+returns-3 : tie.Need-returns-3 Inv-loop μ-loop
+returns-3 c =
+    let lp = c .before in
+    let a = lp .before .before .args in
+    let e : lp .loop .i ≡ count (a .t .now) = omega arith in
+    (subst (λ (m : ℕ). lowest (refusalAt (a .t1) (a .t .now)) m ≡ none) e (lp .loop .inv .1), omega arith, λ h. absurd (omega arith))
+
+pub first-refused-spec : {M : Type 1} → statement M
+first-refused-spec =
+    tie.close
+    (tie.spec
+    Inv-loop
+    μ-loop
+    loop-holds
+    mul-k
+    mul-k-2
+    shared-slice-read-k
+    mul-l
+    add-l
+    mul-l-2
+    shared-slice-read-l
+    mul-r
+    add-r
+    mul-r-2
+    shared-slice-read-r
+    returns
+    cast-at
+    mul-h
+    element-copy-out-h
+    cast-places-fit
+    places-fit-requires
+    returns-2
+    add-i
+    loop-less
+    loop-again
+    returns-3)
