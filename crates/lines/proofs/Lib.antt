@@ -10,6 +10,7 @@ pub mod TableLaw
 pub mod KeywordLaw
 pub mod ReaderLaw
 pub mod LineLaw
+pub mod AcceptedLaw
 pub mod LettersLaw
 pub mod TraceLaw
 pub mod WriterLaw

@@ -47,7 +47,7 @@ large-same ns k a b z =
     ∙ ap (λ (c : Bool). largeSignal ns || (c && leb signals a)) (ne-eqb k 1 (λ e. z (ap arity e ∙ var-arity)))
     ∙ or-false-right (largeSignal ns)
 
-closed-large : (f : Form) (so : ℕ) → Sorted so f → (ns : List Node) → largeSignal (closed f ns) ≡ (largeSignal ns || wide f)
+pub closed-large : (f : Form) (so : ℕ) → Sorted so f → (ns : List Node) → largeSignal (closed f ns) ≡ (largeSignal ns || wide f)
 unfolding closed wide over
 closed-large truth so h ns = large-more ns (node 0 0 0)
 closed-large (signal n) so h ns = large-more ns (node 1 n 0)
