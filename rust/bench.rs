@@ -269,19 +269,6 @@ fn ltl_rows(rng: &mut Rng, name: &str, tables: &[Vec<u16>], length: Length) {
             &mut |c| coded(parallel::ltl_verdict(&c.table, &c.lead, &c.cycle).map(usize::from)),
         ],
     );
-    let mut rows = Vec::new();
-    row(
-        &format!("  without the check, {}", name),
-        &inputs,
-        [
-            &mut |c| library::ltl_holds(&c.table, &c.lead, &c.cycle),
-            &mut |c| {
-                oracle::plain_ltl_fill(&c.table, &c.lead, &c.cycle, &mut rows);
-                rows[rows.len() - c.lead.len() - c.cycle.len()] as u64
-            },
-            &mut |c| parallel::ltl_holds(&c.table, &c.lead, &c.cycle) as u64,
-        ],
-    );
 }
 
 fn psl_rows(rng: &mut Rng, name: &str, tables: &[Vec<u16>], length: Length) {
@@ -293,19 +280,6 @@ fn psl_rows(rng: &mut Rng, name: &str, tables: &[Vec<u16>], length: Length) {
             &mut |c| library::psl_verdict(&c.table, &c.lead, &c.cycle),
             &mut |c| coded(oracle::plain_psl_verdict(&c.table, &c.lead, &c.cycle).map(usize::from)),
             &mut |c| coded(parallel::psl_verdict(&c.table, &c.lead, &c.cycle).map(usize::from)),
-        ],
-    );
-    let (mut rows, mut around) = (Vec::new(), Vec::new());
-    row(
-        &format!("  without the check, {}", name),
-        &inputs,
-        [
-            &mut |c| library::psl_holds(&c.table, &c.lead, &c.cycle),
-            &mut |c| {
-                oracle::plain_psl_fill(&c.table, &c.lead, &c.cycle, &mut rows, &mut around);
-                rows[rows.len() - c.lead.len() - c.cycle.len()] as u64
-            },
-            &mut |c| parallel::psl_holds(&c.table, &c.lead, &c.cycle) as u64,
         ],
     );
 }

@@ -23,8 +23,6 @@ mod exported {
             right: u16,
             out: &mut [u8],
         ) -> u64;
-        pub fn brancadol_psl_holds(table: &[u16], lead: &[u32], cycle: &[u32]) -> u64;
-        pub fn brancadol_ltl_holds(table: &[u16], lead: &[u32], cycle: &[u32]) -> u64;
     }
 }
 
@@ -79,14 +77,4 @@ pub fn read_trace(line: &[u8], lead: &mut [u32], cycle: &mut [u32]) -> u64 {
 /// 256 + the length, or a refusal.
 pub fn write_node(own: u16, kind: u16, left: u16, right: u16, out: &mut [u8]) -> u64 {
     unsafe { exported::brancadol_write_node(own, kind, left, right, out) }
-}
-
-/// 0 or 1, for an accepted table and at most 64 letters.
-pub fn psl_holds(table: &[u16], lead: &[u32], cycle: &[u32]) -> u64 {
-    unsafe { exported::brancadol_psl_holds(table, lead, cycle) }
-}
-
-/// 0 or 1, for an accepted table and 1 to 64 letters.
-pub fn ltl_holds(table: &[u16], lead: &[u32], cycle: &[u32]) -> u64 {
-    unsafe { exported::brancadol_ltl_holds(table, lead, cycle) }
 }

@@ -1,19 +1,11 @@
 // The boundary for tests in Rust: each operation with its answer as one number.
 ghost use mathlib.Core.Path.{_≡_};
-ghost use mathlib.Core.Option.{none};
-ghost use mathlib.Core.Logic.{_↔_};
-ghost use Prim.Native.Nat.{_+_, _<_, _≤_};
+ghost use Prim.Native.Nat.{_+_};
 ghost use lib.ListN.{length};
-ghost use Rattle.trace.specs.Letter.{mostLetters};
-ghost use Rattle.rows.specs.Rows.{Few};
-ghost use Rattle.trace.specs.Moments.{letterAt, restOf, size, found};
+ghost use Rattle.trace.specs.Moments.{letterAt, restOf, found};
 ghost use Rattle.table.specs.Answer.{checked};
 ghost use Rattle.psl.specs.Check.{pslRefusal};
-ghost use Rattle.psl.specs.Meaning.{HoldsOn};
-ghost use Rattle.psl.specs.Table.{formulaOf};
 ghost use Rattle.ltl.specs.Check.{ltlRefusal};
-ghost use Rattle.ltl.specs.Meaning.{LtlHoldsOn};
-ghost use Rattle.ltl.specs.Table.{treeOf};
 ghost use Rattle.translate.specs.declared.Translation.{Translation};
 ghost use Rattle.translate.specs.Answer.{Delivers};
 ghost use Rattle.verdict.specs.declared.Verdict.{Verdict};
@@ -186,32 +178,4 @@ pub extern "C" fn brancadol_write_node(
     ensures { λ r. ⌜ (r ≡ nodeCode (nodeAnswer own (node kind left right) (length (now (out .entry))))) × (now (out .exit) ≡ nodeList (nodeAnswer own (node kind left right) (length (now (out .entry)))) (nodeLine own (node kind left right)) (now (out .entry))) ⌝ }
 {
     node_code(lines::nodes::write_node(NodeNo(own), kind, left, right, out))
-}
-
-// Below the check, for measuring: the caller lends accepted tables and at most 64 letters.
-#[no_mangle]
-pub extern "C" fn brancadol_psl_holds(table: &[u16], lead: &[Letter], cycle: &[Letter]) -> u64
-    requires { ⌜ (pslRefusal (now table) ≡ none) × (size (now lead) (now cycle) ≤ mostLetters) ⌝ }
-    ensures { λ r. ⌜ HoldsOn (formulaOf (now (table .entry))) (now (lead .entry)) (now (cycle .entry)) ↔ (r ≡ 1) ⌝ }
-    ensures { λ r. ⌜ r < 2 ⌝ }
-{
-    if verdict::psl_holds(table, lead, cycle) {
-        1
-    } else {
-        0
-    }
-}
-
-// The same for an LTL table, with at least one letter.
-#[no_mangle]
-pub extern "C" fn brancadol_ltl_holds(table: &[u16], lead: &[Letter], cycle: &[Letter]) -> u64
-    requires { ⌜ (ltlRefusal (now table) ≡ none) × Few (now lead) (now cycle) ⌝ }
-    ensures { λ r. ⌜ LtlHoldsOn (treeOf (now (table .entry))) (now (lead .entry)) (now (cycle .entry)) ↔ (r ≡ 1) ⌝ }
-    ensures { λ r. ⌜ r < 2 ⌝ }
-{
-    if verdict::ltl_holds(table, lead, cycle) {
-        1
-    } else {
-        0
-    }
 }

@@ -127,7 +127,7 @@ fn fill_rows(t: &[u16], lead: &[Letter], cycle: &[Letter], told: &mut [Row])
 }
 
 // Whether an accepted LTL table holds on a trace. Small tables, which are the rule, clear a small array.
-pub fn ltl_holds(t: &[u16], lead: &[Letter], cycle: &[Letter]) -> bool
+fn ltl_holds(t: &[u16], lead: &[Letter], cycle: &[Letter]) -> bool
     requires { ⌜ (ltlRefusal (now t) ≡ none) × Few (now lead) (now cycle) ⌝ }
     ensures { λ b. ⌜ LtlHoldsOn (treeOf (now (t .entry))) (now (lead .entry)) (now (cycle .entry)) ↔ T b ⌝ }
 {
@@ -143,7 +143,7 @@ pub fn ltl_holds(t: &[u16], lead: &[Letter], cycle: &[Letter]) -> bool
 }
 
 // Whether an accepted PSL table holds on a trace: the translation's row, with nothing accepted or rejected yet.
-pub fn psl_holds(t: &[u16], lead: &[Letter], cycle: &[Letter]) -> bool
+fn psl_holds(t: &[u16], lead: &[Letter], cycle: &[Letter]) -> bool
     requires { ⌜ (pslRefusal (now t) ≡ none) × (size (now lead) (now cycle) ≤ mostLetters) ⌝ }
     ensures { λ b. ⌜ HoldsOn (formulaOf (now (t .entry))) (now (lead .entry)) (now (cycle .entry)) ↔ T b ⌝ }
 {
