@@ -1,5 +1,5 @@
 -- What each operation on words does to their bits.
-use mathlib.Core.Path.{_≡_, refl, sym, ap, _∙_}
+use mathlib.Core.Path.{_≡_, refl, sym, ap, ap₂, _∙_}
 use mathlib.Core.Bool.{Bool, true, false, not, _&&_, _||_, and-true, and-false, or-true, or-false}
 use Prim.Native.Nat.{ℕ, zero, suc, _+_, _-_, _*_, _/_, _%_, _^_, _≤_, _<_}
 use native.Mathlib.Nat.{mod-lt, zero-lt-suc, add-zero, add-comm, zero-div, div-one, div-eq-of-lt, lt-of-lt-of-le, pow-succ'}
@@ -8,17 +8,17 @@ use native.Mathlib.Omega.{arith}
 use native.Mathlib.Decide.{decLt}
 use lib.Dec.{eqb, ltb}
 use lib.Pow.{pow-pos, pow-mono, shr-shr, shl-shr, field, mod-mod-pow, ones-lt}
-use lib.Bits.{bitAnd, bitOr, and-shr, or-shr, and-mod, or-mod, and-mask, shifted-half, shifted-even}
+use lib.Bits.{bitAnd, bitOr, and-shr, or-shr, and-mod, or-mod, and-mask, mask-lt, shifted-half, shifted-even}
 use borrow.Author.Tests.{lt-ltb, le-ltb}
-use Rattle.trace.specs.Letter.{bit}
+use Rattle.trace.specs.Letter.{bit, mostLetters}
 
 -- ── By halving ──
 
-bit-first : (n : ℕ) → bit n 0 ≡ eqb (n % 2) 1
+pub bit-first : (n : ℕ) → bit n 0 ≡ eqb (n % 2) 1
 unfolding bit
 bit-first n = ap (λ (x : ℕ). eqb (x % 2) 1) (div-one n)
 
-bit-suc : (n k : ℕ) → bit n (suc k) ≡ bit (n / 2) k
+pub bit-suc : (n k : ℕ) → bit n (suc k) ≡ bit (n / 2) k
 unfolding bit
 bit-suc n k = ap (λ (x : ℕ). eqb (x % 2) 1) (ap (λ (x : ℕ). n / 2 ^ x) (sym (one-add k)) ∙ sym (shr-shr n 1 k))
 
@@ -97,7 +97,7 @@ bit-of : (n k : ℕ) → bit n k ≡ eqb (n % 2 ^ (1 + k) / 2 ^ k) 1
 unfolding bit
 bit-of n k = ap (λ (x : ℕ). eqb x 1) (sym (field n 1 k))
 
-bit-mod : (n w k : ℕ) → k < w → bit (n % 2 ^ w) k ≡ bit n k
+pub bit-mod : (n w k : ℕ) → k < w → bit (n % 2 ^ w) k ≡ bit n k
 bit-mod n w k h =
     let e : w ≡ (w - (1 + k)) + (1 + k) = omega arith in
     bit-of (n % 2 ^ w) k
@@ -132,29 +132,18 @@ bit-lowest a k =
     bit-and (a / 2 ^ k) 1 0 ∙ ap (bit (a / 2 ^ k) 0 &&_) (bit-ones 1 0 (omega arith)) ∙ and-true (bit (a / 2 ^ k) 0)
     ∙ bit-brought a k
 
--- ── Masks of the first n bits ──
+-- The word w with bit k of x put below it.
+abbrev pub pushed : ℕ → ℕ → ℕ → ℕ
+pushed w x k = bitOr (w * 2 ^ 1 % 2 ^ mostLetters) (bitAnd (x / 2 ^ k) 1)
 
-pub bit-mask : (w n m : ℕ) → n ≤ w → bit ((2 ^ w - 1) / 2 ^ (w - n)) m ≡ ltb m n
-bit-mask w n m h =
-    bit-shr (2 ^ w - 1) (w - n) m
-    ∙ elim (decLt m n) [
-      | yes l ↦ bit-ones w (w - n + m) (omega arith) ∙ sym (lt-ltb m n l)
-      | no l ↦ bit-past (2 ^ w - 1) w (w - n + m) (ones-lt w) (omega arith) ∙ sym (le-ltb m n (omega arith))
-    ]
+pub pushed-last : (w x k : ℕ) → bit (pushed w x k) 0 ≡ bit x k
+pushed-last w x k = bit-or _ (bitAnd (x / 2 ^ k) 1) 0 ∙ ap₂ _||_ (bit-shl-low w 1 mostLetters 0 (omega arith) (omega arith)) (bit-lowest x k)
 
-module _ (keep n : ℕ) (mask : (m : ℕ) → bit keep m ≡ ltb m n) (a m : ℕ) where
-  pub kept : m < n → bit (bitAnd a keep) m ≡ bit a m
-  kept h = bit-and a keep m ∙ ap (bit a m &&_) (mask m ∙ lt-ltb m n h) ∙ and-true (bit a m)
+pub bit-double : (w m : ℕ) → suc m < mostLetters → bit (w * 2 ^ 1 % 2 ^ mostLetters) (suc m) ≡ bit w m
+bit-double w m l = ap (bit (w * 2 ^ 1 % 2 ^ mostLetters)) (sym (one-add m)) ∙ bit-shl w 1 mostLetters m (omega arith)
 
-  pub cleared : n ≤ m → bit (bitAnd a keep) m ≡ false
-  cleared h = bit-and a keep m ∙ ap (bit a m &&_) (mask m ∙ le-ltb m n h) ∙ and-false (bit a m)
-
-  module _ (w : ℕ) (fits : keep < 2 ^ w) (in-word : m < w) where
-    outside : bit (2 ^ w - 1 - keep) m ≡ not (ltb m n)
-    outside = bit-not w m keep fits in-word ∙ ap not (mask m)
-
-    pub kept-by-or : m < n → bit (bitOr a (2 ^ w - 1 - keep)) m ≡ bit a m
-    kept-by-or h = bit-or a (2 ^ w - 1 - keep) m ∙ ap (bit a m ||_) (outside ∙ ap not (lt-ltb m n h)) ∙ or-false (bit a m)
-
-    pub filled : n ≤ m → bit (bitOr a (2 ^ w - 1 - keep)) m ≡ true
-    filled h = bit-or a (2 ^ w - 1 - keep) m ∙ ap (bit a m ||_) (outside ∙ ap not (le-ltb m n h)) ∙ or-true (bit a m)
+pub pushed-before : (w x k m : ℕ) → suc m < mostLetters → bit (pushed w x k) (suc m) ≡ bit w m
+pushed-before w x k m l =
+    bit-or _ (bitAnd (x / 2 ^ k) 1) (suc m)
+    ∙ ap₂ _||_ (bit-double w m l) (bit-past (bitAnd (x / 2 ^ k) 1) 1 (suc m) (mask-lt (x / 2 ^ k) 1) (omega arith))
+    ∙ or-false (bit w m)

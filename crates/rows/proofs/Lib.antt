@@ -3,6 +3,6 @@ pub mod PlaceLaw
 pub mod RowLaw
 pub mod SignalLaw
 pub mod NextLaw
-pub mod SweepLaw
+pub mod CarryLaw
 pub mod UntilLaw
 pub mod TableLaw

@@ -1,16 +1,16 @@
 -- What the operations of the machine make of rows, signals, and the first moment.
-use mathlib.Core.Path.{subst}
+use mathlib.Core.Path.{_≡_, subst}
 use mathlib.Core.Bool.{Bool, true, false, not, _&&_, _||_}
 use mathlib.Core.Logic.{_⊎_, inl, inr, _↔_}
 use mathlib.Core.List.{List, _++_}
-use Prim.Native.Nat.{ℕ, _-_, _^_, _<_}
+use Prim.Native.Nat.{ℕ, _+_, _-_, _^_, _<_}
 use native.Mathlib.Omega.{arith}
 use lib.Dec.{T}
 use lib.Bits.{bitAnd, bitOr}
 use lib.Pow.{ones-lt}
 use lib.ListN.{length, length-append}
 use Rattle.trace.specs.Letter.{bit, mostLetters}
-use Rattle.trace.specs.Moments.{letterAt, InTrace}
+use Rattle.trace.specs.Moments.{letterAt, size, InTrace}
 use Rattle.trace.proofs.MomentsLaw.{starts}
 use Rattle.trace.proofs.TestLaw.{not-iff, and-iff, or-iff}
 use Rattle.ltl.specs.Tree.{Ltl, ltrue, lvar, lnot, land, lor}
@@ -56,12 +56,13 @@ module _ {lead loop : List ℕ} (few : Few lead loop) where
   tells-var k w s =
       record {
         at = λ i h.
-            let l : place lead loop i < length (lead ++ loop) = omega (arith, place-lt lead loop i h, length-append lead loop) in
-            rw (place-letter lead loop i h, s (place lead loop i) l (in-row i h)) (λ g. g, λ g. g);
+            let m = place lead loop i in
+            let e : size lead loop - 1 - m + m + 1 ≡ length (lead ++ loop) = omega (arith, place-lt lead loop i h, length-append lead loop) in
+            rw (place-letter lead loop i h, s (size lead loop - 1 - m) m e (in-row i h)) (λ g. g, λ g. g);
       }
 
   -- ── The first moment ──
 
-  pub tells-first : {w : ℕ} {x : Ltl} → Tells lead loop w x → LtlHoldsOn x lead loop ↔ T (bit w 0)
+  pub tells-first : {w : ℕ} {x : Ltl} → Tells lead loop w x → LtlHoldsOn x lead loop ↔ T (bit w (size lead loop - 1))
   tells-first {w} {x} W =
       subst (λ (m : ℕ). LtlHoldsOn x lead loop ↔ T (bit w m)) (place-first lead loop (few .some)) (W .at 0 (starts lead loop (few .some)))

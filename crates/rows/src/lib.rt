@@ -1,57 +1,60 @@
 // Rows: the truths of an LTL tree at all moments of a trace, in one word. not, and, or are one operation of the machine; RowLaw has what they tell.
+use std::num::wrapping_add_u64;
 use trace::Letter;
 ghost use mathlib.Core.Path.{_≡_};
 ghost use mathlib.Core.Logic.{_↔_};
 ghost use mathlib.Core.List.{List, _++_};
 ghost use Prim.Native.Nat.{ℕ, _≤_, _<_};
-ghost use lib.Dec.{T, ltb};
+ghost use lib.Dec.{T};
 ghost use lib.ListN.{length};
 ghost use Rattle.trace.specs.Letter.{bit, signals, mostLetters};
 ghost use Rattle.trace.specs.Moments.{size};
 ghost use Rattle.ltl.specs.Tree.{Ltl, lvar, lnot, land, lor, lnext, luntil};
 ghost use Rattle.ltl.specs.Meaning.{LtlHoldsOn};
-ghost use Rattle.rows.specs.Rows.{Tells, Few, SignalIn, Swept, TellsNode};
+ghost use Rattle.rows.specs.Rows.{Tells, Few, SignalIn, Known, Swept, TellsNode};
 
-// Bit m is the truth where letter m of both lists stands; bits past the last letter may hold anything.
+// The last letter of both lists has the lowest bit, the one before it the next, and so on; bits past the first letter may hold anything. So what
+// follows a moment is one bit lower, and nothing has to be masked out.
 pub type Row = u64;
 
 // The most letters that a verdict takes: a bit for each.
 pub const MOST_LETTERS: usize = 64;
 
-// The number of the last bit.
-const LAST: usize = MOST_LETTERS - 1;
-
 // Yes at every moment.
 pub const ALWAYS: Row = u64::MAX;
 
-// The first n bits.
-fn mask(n: usize) -> Row
-    requires { ⌜ (0 < n) × (n ≤ mostLetters) ⌝ }
-    ensures { λ r. ⌜ ((m : ℕ) → bit r m ≡ ltb m n) ⌝ }
-{
-    ALWAYS >> (MOST_LETTERS - n)
-}
-
-// Signal k at the letters of a list, put before a row of what comes after them.
-fn signal_before(after: Row, s: &[Letter], k: u16) -> Row
+// Signal k at the letters of a list, put after a row of what comes before them.
+fn signal_after(before: Row, s: &[Letter], k: u16) -> Row
     requires { ⌜ k < signals ⌝ }
-    ensures { λ r. ⌜ ((t : List ℕ) → SignalIn t k after → SignalIn (now (s .entry) ++ t) k r) ⌝ }
+    ensures { λ r. ⌜ ((t : List ℕ) → SignalIn t k before → SignalIn (t ++ now (s .entry)) k r) ⌝ }
 {
-    let mut w = after;
-    let mut i = s.len();
-    while 0 < i {
-        i -= 1;
+    let mut w = before;
+    let mut i: usize = 0;
+    while i < s.len() {
         w = (w << 1) | (((s[i] >> k) & 1) as Row);
+        i += 1;
     }
     w
 }
 
 // The row of signal k.
-pub fn signal_row(lead: &[Letter], cycle: &[Letter], k: u16) -> Row
+fn signal_row(lead: &[Letter], cycle: &[Letter], k: u16) -> Row
     requires { ⌜ Few (now lead) (now cycle) × (k < signals) ⌝ }
     ensures { λ w. ⌜ Tells (now (lead .entry)) (now (cycle .entry)) w (lvar k) ⌝ }
 {
-    signal_before(signal_before(0, cycle, k), lead, k)
+    signal_after(signal_after(0, lead, k), cycle, k)
+}
+
+// Signal k becomes known: its row is made where it is not there yet. The answer is the signals that are known then.
+pub fn learn(k: u16, known: Letter, rows: &mut [Row], lead: &[Letter], cycle: &[Letter]) -> Letter
+    requires { ⌜ Few (now lead) (now cycle) × (k < signals) × (signals ≤ length (now rows)) × Known (now lead) (now cycle) known (now rows) ⌝ }
+    ensures { λ r. ⌜ Known (now (lead .entry)) (now (cycle .entry)) r (now (rows .exit)) × T (bit r k) × ((j : ℕ) → T (bit known j) → T (bit r j)) ⌝ }
+{
+    if (known >> k) & 1 == 1 {
+        return known;
+    }
+    rows[k as usize] = signal_row(lead, cycle, k);
+    known | (1 << k)
 }
 
 // What accept row a and reject row r make of row b: a or (b and not r).
@@ -62,75 +65,60 @@ pub fn gate(a: Row, b: Row, r: Row) -> Row
     a | (b & !r)
 }
 
-// The row of next, on a trace of start letters before the loop and len in all: a shift, and on a loop its first bit for the last.
-pub fn next_row(a: Row, start: usize, len: usize) -> Row
-    requires { ⌜ (0 < len) × (len ≤ mostLetters) × (start ≤ len) ⌝ }
-    ensures { λ w. ⌜ ((lead loop : List ℕ) (x : Ltl) → length lead ≡ start → size lead loop ≡ len
-        → Tells lead loop a x → Tells lead loop w (lnext x)) ⌝ }
+// The row of next, where the loop has so many letters, 0 for none: each bit from the one below it, and the lowest from the loop's first.
+pub fn next_row(a: Row, period: usize) -> Row
+    requires { ⌜ period ≤ mostLetters ⌝ }
+    ensures { λ w. ⌜ ((lead loop : List ℕ) (x : Ltl) → Few lead loop → length loop ≡ period → Tells lead loop a x → Tells lead loop w (lnext x)) ⌝ }
 {
-    let later = (a & mask(len)) >> 1;
-    if start < len {
-        later | ((a & (1 << start)) << (len - 1 - start))
+    if period == 0 {
+        a << 1
     } else {
-        later
+        (a << 1) | ((a >> (period - 1)) & 1)
     }
 }
 
-// The until step: until over all bits from the last back, where carry stands past the last. Six doublings: at each moment `until` and `first` speak of
-// the next `stretch` moments, until and the first operand at all of them.
+// The until step: until over all bits from the lowest up, where carry stands below it. It is the carry of a sum: adding f | g and g, one leaves a bit
+// where g is set, or where f is and one comes in. Where f alone is set the sum's bit is the opposite of what came in.
 fn sweep(f: Row, g: Row, carry: Row) -> Row
-    ensures { λ r. ⌜ Swept f g carry r ⌝ }
+    ensures { λ r. ⌜ Swept f g (bit carry 0) r ⌝ }
 {
-    let mut first = f;
-    let mut until = g | (f & (carry << LAST));
-    let mut stretch: usize = 1;
-    while stretch < MOST_LETTERS {
-        until = until | (first & (until >> stretch));
-        first = first & (first >> stretch);
-        stretch += stretch;
-    }
-    until
+    let sum = wrapping_add_u64(wrapping_add_u64(f | g, g), carry & 1);
+    g | (f & !sum)
 }
 
-// The row of until, on a trace of start letters before the loop and len in all: from no, and on a loop again from what that says of the loop's start.
-// Past the last letter the first operand is yes and the second no, which hands the carry on.
-pub fn until_row(f: Row, g: Row, start: usize, len: usize) -> Row
-    requires { ⌜ (0 < len) × (len ≤ mostLetters) × (start ≤ len) ⌝ }
-    ensures { λ w. ⌜ ((lead loop : List ℕ) (x y : Ltl) → length lead ≡ start → size lead loop ≡ len
+// The row of until, where the loop has so many letters, 0 for none: from no, and on a loop again from what that says of the loop's start.
+pub fn until_row(f: Row, g: Row, period: usize) -> Row
+    requires { ⌜ period ≤ mostLetters ⌝ }
+    ensures { λ w. ⌜ ((lead loop : List ℕ) (x y : Ltl) → Few lead loop → length loop ≡ period
         → Tells lead loop f x → Tells lead loop g y → Tells lead loop w (luntil x y)) ⌝ }
 {
-    let keep = mask(len);
-    let first = f | !keep;
-    let second = g & keep;
-    let once = sweep(first, second, 0);
-    if start < len {
-        sweep(first, second, once >> start)
-    } else {
+    let once = sweep(f, g, 0);
+    if period == 0 {
         once
+    } else {
+        sweep(f, g, once >> (period - 1))
     }
 }
 
-// The row of an LTL node of kind k whose left place holds l, by its operands' rows a and b.
-pub fn node_row(k: u16, l: u16, a: Row, b: Row, lead: &[Letter], cycle: &[Letter]) -> Row
-    requires { ⌜ Few (now lead) (now cycle) × (k ≡ 1 → l < signals) ⌝ }
-    ensures { λ w. ⌜ TellsNode (now (lead .entry)) (now (cycle .entry)) k l a b w ⌝ }
+// The row of an LTL node of kind k, not a signal's, by its operands' rows a and b.
+pub fn node_row(k: u16, a: Row, b: Row, period: usize) -> Row
+    requires { ⌜ period ≤ mostLetters ⌝ }
+    ensures { λ w. ⌜ ((lead loop : List ℕ) (l : ℕ) → Few lead loop → length loop ≡ period → (k ≡ 1 → ⊥) → TellsNode lead loop k l a b w) ⌝ }
 {
-    let start = lead.len();
-    let len = start + cycle.len();
     match k {
-        1 => signal_row(lead, cycle, l),
         2 => !a,
         3 => a & b,
         4 => a | b,
-        5 => next_row(a, start, len),
-        6 => until_row(a, b, start, len),
+        5 => next_row(a, period),
+        6 => until_row(a, b, period),
         _ => ALWAYS,
     }
 }
 
-// Whether a tree holds on a trace, by its row: its truth at moment 0.
-pub fn at_first(w: Row) -> bool
-    ensures { λ b. ⌜ ((lead loop : List ℕ) (x : Ltl) → Few lead loop → Tells lead loop w x → LtlHoldsOn x lead loop ↔ T b) ⌝ }
+// Whether a tree holds on a trace of so many letters, by its row: its truth at moment 0.
+pub fn at_first(w: Row, letters: usize) -> bool
+    requires { ⌜ (0 < letters) × (letters ≤ mostLetters) ⌝ }
+    ensures { λ b. ⌜ ((lead loop : List ℕ) (x : Ltl) → size lead loop ≡ letters → Tells lead loop w x → LtlHoldsOn x lead loop ↔ T b) ⌝ }
 {
-    w & 1 == 1
+    (w >> (letters - 1)) & 1 == 1
 }

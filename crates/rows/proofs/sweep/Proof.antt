@@ -1,59 +1,32 @@
--- The loop's invariant: the two rows speak of a stretch of moments, which doubles at each turn until it is the whole row.
-use Prim.Native.Nat.{_+_, _-_}
-use native.Mathlib.Omega.{arith}
-use Rattle.trace.specs.Letter.{mostLetters}
-use Rattle.rows.proofs.SweepLaw.{Stretch, single, doubled, whole, joined, joined-fits, swept}
+-- The carries of a sum are the until step.
+use borrow.Author.Needs.{needs}
+use mathlib.Core.Path.{_≡_, sym, ap, subst, _∙_}
+use Prim.Native.Nat.{ℕ, _+_, _-_, _%_, _^_}
+use lib.Bits.{bitAnd, bitOr}
+use Rattle.trace.specs.Letter.{bit, mostLetters}
+use Rattle.rows.specs.Rows.{Swept}
+use Rattle.rows.proofs.CarryLaw.{swept}
 use Rattle.rows.proofs.sweep.Statement.{statement}
 use Rattle.rows.proofs.sweep.Tie as tie
+use Rattle.rows.proofs.sweep.Reads as reads
+use Rattle.rows.proofs.sweep.Lts as lts
+use Rattle.std.proofs.num.wrapping_add_u64.Reads as wrapping-add-u64-reads
 
-abbrev Inv-loop : tie.InvT-loop
-Inv-loop f g carry first₀ until₀ stretch₀ first until stretch = Stretch f (joined f g carry) first until stretch
+-- src/lib.rt:85:32
+wrapping-add-u64-requires : tie.Need-wrapping-add-u64-requires
+wrapping-add-u64-requires c κs = search needs
 
-abbrev μ-loop : tie.MeasureT-loop
-μ-loop f g carry first₀ until₀ stretch₀ first until stretch = mostLetters + mostLetters - stretch
+-- src/lib.rt:85:9
+wrapping-add-u64-requires-2 : tie.Need-wrapping-add-u64-requires-2
+wrapping-add-u64-requires-2 c κs = search needs
 
-shl-until : tie.Need-shl-until Inv-loop μ-loop
-shl-until c = omega arith
-
-loop-holds : tie.Need-loop-holds Inv-loop μ-loop
-loop-holds c =
-    let a = c .args in
-    single (a .f) (joined (a .f) (a .g) (a .carry)) (c .fits .f .fits) (joined-fits (a .f) (a .g) (a .carry) (c .fits .f .fits) (c .fits .g .fits))
-
-shr-until : tie.Need-shr-until Inv-loop μ-loop
-shr-until c = omega arith
-
-shr-first : tie.Need-shr-first Inv-loop μ-loop
-shr-first c = omega arith
-
-add-stretch : tie.Need-add-stretch Inv-loop μ-loop
-add-stretch c = omega arith
-
-loop-less : tie.Need-loop-less Inv-loop μ-loop
-loop-less c = omega arith
-
-loop-again : tie.Need-loop-again Inv-loop μ-loop
-loop-again c =
-    let a = c .before .before .args in
-    doubled (a .f) (joined (a .f) (a .g) (a .carry)) (c .before .loop .inv)
-
-returns : tie.Need-returns Inv-loop μ-loop
+-- src/lib.rt:82:1
+returns : tie.Need-returns
 returns c =
-    let a = c .before .before .args in
-    let l = c .before .loop in
-    swept (a .f) (a .g) (a .carry) (l .until) (whole (a .f) (joined (a .f) (a .g) (a .carry)) (l .inv) (omega arith))
+    let A = c .before in
+    let a = A .before .args in
+    let e = c .wrapping-add-u642 .ensures ∙ ap (λ (x : ℕ). (x + bitAnd (a .carry) 1) % 2 ^ mostLetters) (A .wrapping-add-u64 .ensures) in
+    subst (λ (x : ℕ). Swept (a .f) (a .g) (bit (a .carry) 0) (bitOr (a .g) (bitAnd (a .f) (2 ^ mostLetters - 1 - x)))) (sym e) (swept (a .f) (a .g) (a .carry))
 
 pub sweep-spec : {M : Type 1} → statement M
-sweep-spec =
-    tie.close
-    (tie.spec
-    Inv-loop
-    μ-loop
-    shl-until
-    loop-holds
-    shr-until
-    shr-first
-    add-stretch
-    loop-less
-    loop-again
-    returns)
+sweep-spec = tie.close (tie.spec wrapping-add-u64-requires wrapping-add-u64-requires-2 returns)
