@@ -46,16 +46,16 @@ module _ (t : List ℕ) (fine : ltlRefusal t ≡ none) where
         ⨾ tt) (kindAt t i) (kind-in ltlRules t fine i inside) (left-fits ltlRules t fine i inside (kindAt t i) refl)
         (right-fits ltlRules t fine i inside (kindAt t i) refl)
 
-    -- Both are below any bound on the signals and on the node's own.
-    pub below-any : (m : ℕ) → signals ≤ m → i < m → (leftAt t i < m) × (rightAt t i < m)
-    below-any m s n =
-        each (λ k. Left k → Right k → (leftAt t i < m) × (rightAt t i < m)) 7
-        ((λ x y. (omega (arith, x .low), omega (arith, y .low)))
-        ⨾ (λ x y. (omega (arith, x .low), omega (arith, y .low)))
-        ⨾ (λ x y. (omega (arith, x .low), omega (arith, y .low)))
-        ⨾ (λ x y. (omega (arith, x .low), omega (arith, y .low)))
-        ⨾ (λ x y. (omega (arith, x .low), omega (arith, y .low)))
-        ⨾ (λ x y. (omega (arith, x .low), omega (arith, y .low)))
-        ⨾ (λ x y. (omega (arith, x .low), omega (arith, y .low)))
+    -- In a node that is no signal both are below any bound on the node's own.
+    pub operands-below : (kindAt t i ≡ 1 → ⊥) → (m : ℕ) → i < m → (leftAt t i < m) × (rightAt t i < m)
+    operands-below other m n =
+        each (λ k. Left k → Right k → (k ≡ 1 → ⊥) → (leftAt t i < m) × (rightAt t i < m)) 7
+        ((λ x y d. (omega (arith, x .low), omega (arith, y .low)))
+        ⨾ (λ x y d. absurd (d refl))
+        ⨾ (λ x y d. (omega (arith, x .low), omega (arith, y .low)))
+        ⨾ (λ x y d. (omega (arith, x .low), omega (arith, y .low)))
+        ⨾ (λ x y d. (omega (arith, x .low), omega (arith, y .low)))
+        ⨾ (λ x y d. (omega (arith, x .low), omega (arith, y .low)))
+        ⨾ (λ x y d. (omega (arith, x .low), omega (arith, y .low)))
         ⨾ tt) (kindAt t i) (kind-in ltlRules t fine i inside) (left-fits ltlRules t fine i inside (kindAt t i) refl)
-        (right-fits ltlRules t fine i inside (kindAt t i) refl)
+        (right-fits ltlRules t fine i inside (kindAt t i) refl) other

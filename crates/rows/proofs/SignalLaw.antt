@@ -14,7 +14,7 @@ use Rattle.trace.specs.Letter.{bit, signals}
 use Rattle.trace.proofs.TestLaw.{or-iff}
 use Rattle.ltl.specs.Tree.{lvar}
 use Rattle.rows.specs.Rows.{Tells, SignalIn, Known}
-use Rattle.rows.proofs.BitLaw.{bit-or, bit-ones, bit-past, bit-shl, bit-shl-low, bit-brought, test-first, pushed, pushed-last, pushed-before}
+use Rattle.rows.proofs.BitLaw.{bit-zero, bit-or, bit-ones, bit-past, bit-shl, bit-shl-low, bit-brought, test-first, pushed, pushed-last, pushed-before}
 
 signal-more : (t : List ℕ) (x k w : ℕ) → SignalIn t k w → SignalIn (t ++ (x ∷ [])) k (pushed w x k)
 signal-more t x k w s i zero e l =
@@ -36,6 +36,10 @@ signal-step s t k w i h W =
 
 pub bit-set : (n k : ℕ) → bitAnd (n / 2 ^ k) 1 ≡ 1 → T (bit n k)
 bit-set n k e = subst T (ap (λ (x : ℕ). eqb x 1) (sym e) ∙ test-first (n / 2 ^ k) ∙ bit-brought n k) tt
+
+-- At first no signal is known.
+pub known-none : {lead loop rows : List ℕ} → Known lead loop 0 rows
+known-none = record { row = λ k h b. absurd (subst T (bit-zero k) b) }
 
 -- The letter of signal k alone.
 module _ (w k : ℕ) where

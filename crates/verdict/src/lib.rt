@@ -3,7 +3,8 @@ ghost use mathlib.Core.Path.{_≡_};
 ghost use mathlib.Core.Bool.{cond};
 ghost use mathlib.Core.Option.{none};
 ghost use mathlib.Core.Logic.{_↔_};
-ghost use Prim.Native.Nat.{_+_, _-_, _<_, _≤_};
+ghost use mathlib.Core.List.{List};
+ghost use Prim.Native.Nat.{ℕ, _+_, _-_, _<_, _≤_};
 ghost use lib.Dec.{T};
 ghost use lib.ListN.{length, getD};
 ghost use Rattle.trace.specs.Letter.{signals, mostLetters};
@@ -19,7 +20,7 @@ ghost use Rattle.ltl.specs.Table.{treeOf};
 ghost use Rattle.psl.specs.Empty.{onEmpty};
 ghost use Rattle.translate.specs.Translation.{treeB};
 ghost use Rattle.rows.specs.Rows.{Tells, Few};
-ghost use Rattle.verdict.specs.Rows.{TellsFormula};
+ghost use Rattle.verdict.specs.Rows.{TellsFormula, SignalRows};
 ghost use Rattle.verdict.specs.Verdict.{PslJudges, LtlJudges};
 use rows::ALWAYS;
 use rows::MOST_LETTERS;
@@ -29,10 +30,27 @@ use table::NodeNo;
 use trace::Letter;
 use trace::Refusal;
 
-// The row of a Boolean.
-fn boolean_row(t: &[u16], i: NodeNo, lead: &[Letter], cycle: &[Letter]) -> Row
-    requires { ⌜ (pslRefusal (now t) ≡ none) × (i .0 < count (now t)) × (kindAt (now t) (i .0) < 4) × Few (now lead) (now cycle) ⌝ }
-    ensures { λ w. ⌜ Tells (now (lead .entry)) (now (cycle .entry)) w (treeB (booleanAt (now (t .entry)) (i .0))) ⌝ }
+// The rows of the signals that a table names.
+fn signal_rows(t: &[u16], lead: &[Letter], cycle: &[Letter], vars: &mut [Row])
+    requires { ⌜ (pslRefusal (now t) ≡ none) × Few (now lead) (now cycle) × (signals ≤ length (now vars)) ⌝ }
+    ensures { λ _. ⌜ SignalRows (now (lead .entry)) (now (cycle .entry)) (now (t .entry)) (now (vars .exit)) ⌝ }
+{
+    let n = t.len() / 3;
+    let mut known: Letter = 0;
+    let mut i: usize = 0;
+    while i < n {
+        if t[3 * i] == 1 {
+            known = rows::learn(t[3 * i + 1], known, &mut *vars, lead, cycle);
+        }
+        i += 1;
+    }
+}
+
+// The row of a Boolean, by the rows of its signals.
+fn boolean_row(t: &[u16], i: NodeNo, vars: &[Row; 32]) -> Row
+    requires { ⌜ (pslRefusal (now t) ≡ none) × (i .0 < count (now t)) × (kindAt (now t) (i .0) < 4) ⌝ }
+    ensures { λ w. ⌜ ((lead loop : List ℕ) → Few lead loop → SignalRows lead loop (now (t .entry)) (now (vars .entry))
+        → Tells lead loop w (treeB (booleanAt (now (t .entry)) (i .0)))) ⌝ }
 {
     let at = 3 * (i.0 as usize);
     let kind = t[at];
@@ -40,41 +58,40 @@ fn boolean_row(t: &[u16], i: NodeNo, lead: &[Letter], cycle: &[Letter]) -> Row
     let right = t[at + 2];
     match kind {
         0 => ALWAYS,
-        1 => rows::signal_row(lead, cycle, left),
-        2 => !boolean_row(t, NodeNo(left), lead, cycle),
-        _ => boolean_row(t, NodeNo(left), lead, cycle) & boolean_row(t, NodeNo(right), lead, cycle),
+        1 => vars[left as usize],
+        2 => !boolean_row(t, NodeNo(left), vars),
+        _ => boolean_row(t, NodeNo(left), vars) & boolean_row(t, NodeNo(right), vars),
     }
 }
 
-// The row of a formula's translation, by the rows of accept and reject.
-fn formula_row(t: &[u16], i: NodeNo, a: Row, r: Row, lead: &[Letter], cycle: &[Letter]) -> Row
-    requires { ⌜ (pslRefusal (now t) ≡ none) × (i .0 < count (now t)) × (4 ≤ kindAt (now t) (i .0)) × Few (now lead) (now cycle) ⌝ }
-    ensures { λ w. ⌜ TellsFormula (now (lead .entry)) (now (cycle .entry)) (formulaAt (now (t .entry)) (i .0)) a r w ⌝ }
+// The row of a formula's translation, by the rows of accept and reject and of its signals; the trace's loop has `period` letters.
+fn formula_row(t: &[u16], i: NodeNo, a: Row, r: Row, vars: &[Row; 32], period: usize) -> Row
+    requires { ⌜ (pslRefusal (now t) ≡ none) × (i .0 < count (now t)) × (4 ≤ kindAt (now t) (i .0)) × (period ≤ mostLetters) ⌝ }
+    ensures { λ w. ⌜ ((lead loop : List ℕ) → Few lead loop → length loop ≡ period → SignalRows lead loop (now (t .entry)) (now (vars .entry))
+        → TellsFormula lead loop (formulaAt (now (t .entry)) (i .0)) a r w) ⌝ }
 {
     let at = 3 * (i.0 as usize);
     let kind = t[at];
     let left = NodeNo(t[at + 1]);
     let right = NodeNo(t[at + 2]);
     if kind < 6 {
-        return rows::gate(a, boolean_row(t, left, lead, cycle), r);
+        return rows::gate(a, boolean_row(t, left, vars), r);
     }
-    let start = lead.len();
-    let len = start + cycle.len();
     match kind {
-        6 => !formula_row(t, left, r, a, lead, cycle),
-        7 => formula_row(t, left, a, r, lead, cycle) & formula_row(t, right, a, r, lead, cycle),
+        6 => !formula_row(t, left, r, a, vars, period),
+        7 => formula_row(t, left, a, r, vars, period) & formula_row(t, right, a, r, vars, period),
         8 => {
-            let x = formula_row(t, left, a, r, lead, cycle);
-            rows::gate(a, rows::next_row(x, start, len), r)
+            let x = formula_row(t, left, a, r, vars, period);
+            rows::gate(a, rows::next_row(x, period), r)
         }
         9 => {
-            let x = formula_row(t, left, a, r, lead, cycle);
-            let y = formula_row(t, right, a, r, lead, cycle);
-            rows::until_row(x, y, start, len)
+            let x = formula_row(t, left, a, r, vars, period);
+            let y = formula_row(t, right, a, r, vars, period);
+            rows::until_row(x, y, period)
         }
         _ => {
-            let b = boolean_row(t, right, lead, cycle);
-            formula_row(t, left, rows::gate(a, b, r), r, lead, cycle)
+            let b = boolean_row(t, right, vars);
+            formula_row(t, left, rows::gate(a, b, r), r, vars, period)
         }
     }
 }
@@ -97,61 +114,70 @@ fn on_empty(t: &[u16], i: NodeNo) -> bool
     }
 }
 
-// The row of node n, asked for node i's sake. Most nodes wait for the one just before: its row is at hand, `last`, and need not be read back.
-fn row_at(told: &[Row], n: u16, i: usize, last: Row) -> Row
-    requires { ⌜ (n < length (now told)) × (i ≡ n + 1 → last ≡ getD (now told) n 0) ⌝ }
-    ensures { λ w. ⌜ w ≡ getD (now (told .entry)) n 0 ⌝ }
+// Word n of a list of rows.
+fn word(list: &[Row], n: u16) -> Row
+    requires { ⌜ n < length (now list) ⌝ }
+    ensures { λ w. ⌜ w ≡ getD (now (list .entry)) n 0 ⌝ }
 {
-    let at = n as usize;
-    if i == at + 1 { last } else { told[at] }
+    list[n as usize]
 }
 
 // The rows of all nodes of an LTL table, from node 0 up.
 fn fill_rows(t: &[u16], lead: &[Letter], cycle: &[Letter], told: &mut [Row])
-    requires { ⌜ (ltlRefusal (now t) ≡ none) × Few (now lead) (now cycle) × (count (now t) ≤ length (now told)) × (signals ≤ length (now told)) ⌝ }
+    requires { ⌜ (ltlRefusal (now t) ≡ none) × Few (now lead) (now cycle) × (count (now t) ≤ length (now told)) ⌝ }
     ensures { λ _. ⌜ Tells (now (lead .entry)) (now (cycle .entry)) (getD (now (told .exit)) (count (now (t .entry)) - 1) 0) (treeOf (now (t .entry))) ⌝ }
 {
     let n = t.len() / 3;
-    let mut last: Row = 0;
+    let period = cycle.len();
+    let mut vars = [0u64; 32];
+    let mut known: Letter = 0;
     let mut i: usize = 0;
     while i < n {
         let kind = t[3 * i];
         let left = t[3 * i + 1];
         let right = t[3 * i + 2];
-        let a = row_at(&*told, left, i, last);
-        let b = row_at(&*told, right, i, last);
-        last = rows::node_row(kind, left, a, b, lead, cycle);
-        told[i] = last;
+        if kind == 1 {
+            known = rows::learn(left, known, &mut vars, lead, cycle);
+            told[i] = word(&vars, left);
+        } else {
+            let a = word(&*told, left);
+            let b = word(&*told, right);
+            told[i] = rows::node_row(kind, a, b, period);
+        }
         i += 1;
     }
 }
 
 // Whether an accepted LTL table holds on a trace. Small tables, which are the rule, clear a small array.
-fn ltl_holds(t: &[u16], lead: &[Letter], cycle: &[Letter]) -> bool
+pub fn ltl_holds(t: &[u16], lead: &[Letter], cycle: &[Letter]) -> bool
     requires { ⌜ (ltlRefusal (now t) ≡ none) × Few (now lead) (now cycle) ⌝ }
     ensures { λ b. ⌜ LtlHoldsOn (treeOf (now (t .entry))) (now (lead .entry)) (now (cycle .entry)) ↔ T b ⌝ }
 {
     let last = t.len() / 3 - 1;
+    let letters = lead.len() + cycle.len();
     if last < 128 {
         let mut few = [0u64; 128];
         fill_rows(t, lead, cycle, &mut few);
-        return rows::at_first(few[last]);
+        return rows::at_first(few[last], letters);
     }
     let mut told = [0u64; 4096];
     fill_rows(t, lead, cycle, &mut told);
-    rows::at_first(told[last])
+    rows::at_first(told[last], letters)
 }
 
 // Whether an accepted PSL table holds on a trace: the translation's row, with nothing accepted or rejected yet.
-fn psl_holds(t: &[u16], lead: &[Letter], cycle: &[Letter]) -> bool
+pub fn psl_holds(t: &[u16], lead: &[Letter], cycle: &[Letter]) -> bool
     requires { ⌜ (pslRefusal (now t) ≡ none) × (size (now lead) (now cycle) ≤ mostLetters) ⌝ }
     ensures { λ b. ⌜ HoldsOn (formulaOf (now (t .entry))) (now (lead .entry)) (now (cycle .entry)) ↔ T b ⌝ }
 {
     let root = NodeNo((t.len() / 3 - 1) as u16);
-    if lead.len() + cycle.len() == 0 {
+    let letters = lead.len() + cycle.len();
+    if letters == 0 {
         return on_empty(t, root);
     }
-    rows::at_first(formula_row(t, root, 0, 0, lead, cycle))
+    let mut vars = [0u64; 32];
+    signal_rows(t, lead, cycle, &mut vars);
+    rows::at_first(formula_row(t, root, 0, 0, &vars, cycle.len()), letters)
 }
 
 pub enum Verdict {

@@ -1,26 +1,35 @@
--- `verdict::fill_rows` meets its contract. The invariant: the first i words are the rows of the first i nodes, `last` the last of them.
+-- `verdict::fill_rows` meets its contract. The invariant: the first i words are the rows of the first i nodes.
 use borrow.Author.Needs.{needs}
 use native.Mathlib.Omega.{arith}
-use mathlib.Core.Path.{_≡_, sym, subst}
+use mathlib.Core.Path.{_≡_, refl, sym, subst, _∙_}
+use mathlib.Core.Logic.{⊎-elim}
 use Prim.Native.Nat.{ℕ, _+_, _-_, _≤_, _<_}
 use lib.ListN.{length, getD, set, length-set}
-use lib.Seq.{getD-set-same}
+use Rattle.trace.specs.Letter.{signals}
 use Rattle.table.specs.Node.{nodesOf, count, kindAt, leftAt, rightAt}
 use Rattle.table.proofs.NodeLaw.{length-nodes, node-at}
-use Rattle.ltl.proofs.AcceptedLaw.{some-node, is-var, both-below, below-any}
+use Rattle.ltl.proofs.AcceptedLaw.{some-node, is-var, both-below, operands-below}
+use Rattle.ltl.specs.Tree.{lvar}
 use Rattle.ltl.specs.Table.{treeOf}
-use Rattle.rows.specs.Rows.{Tells, TellsNode}
-use Rattle.rows.proofs.TableLaw.{Told, told-none, told-more, told-root}
+use Rattle.rows.specs.Rows.{Tells, TellsNode, Known}
+use Rattle.rows.proofs.SignalLaw.{known-none}
+use Rattle.rows.proofs.TableLaw.{Told, told-none, told-more, told-root, tells-signal}
 use Rattle.verdict.proofs.fill_rows.Statement.{statement}
 use Rattle.verdict.proofs.fill_rows.Tie as tie
+use Rattle.verdict.proofs.fill_rows.Reads as reads
+use Rattle.verdict.proofs.fill_rows.Lts as lts
+use Rattle.rows.proofs.learn.Reads as learn-reads
+use Rattle.rows.proofs.node_row.Reads as node-row-reads
+use Rattle.verdict.proofs.word.Reads as word-reads
 
 abbrev Inv-loop : tie.InvT-loop
-Inv-loop t lead cycle told₀ n last₀ i₀ told last i = (n ≡ count t) × (i ≤ n) × (length told ≡ length told₀) × Told lead cycle (nodesOf t) i told × (0 < i → last ≡ getD told (i - 1) 0)
+Inv-loop t lead cycle told₀ n period vars₀ known₀ i₀ told vars known i =
+    (n ≡ count t) × (i ≤ n) × (length told ≡ length told₀) × (length vars ≡ signals) × Told lead cycle (nodesOf t) i told × Known lead cycle known vars
 
 abbrev μ-loop : tie.MeasureT-loop
-μ-loop t lead cycle told₀ n last₀ i₀ told last i = n - i
+μ-loop t lead cycle told₀ n period vars₀ known₀ i₀ told vars known i = n - i
 
--- What a turn knows: the node that was read is one of the table's, and any number in its places is an index of the rows.
+-- What a turn knows: the node that was read is one of the table's.
 abbrev turn : tie.After-shared-slice-known6 Inv-loop μ-loop → tie.At-loop Inv-loop μ-loop
 turn u = u .before .before .before .before
 
@@ -30,123 +39,200 @@ start L = L .before .before .before .before .before
 inside : (u : tie.After-shared-slice-known6 Inv-loop μ-loop) → let L = turn u in L .loop .i < count (start L .args .t .now)
 inside u = let I = turn u .loop .inv in omega (arith, I .0, I .1)
 
+-- A signal's number is one of a word, and so is an operand's.
+signal-below : (u : tie.After-shared-slice-known6 Inv-loop μ-loop)
+    → let L = turn u in
+    let t = start L .args .t .now in
+    kindAt t (L .loop .i) ≡ 1 → leftAt t (L .loop .i) < signals
+signal-below u e = let L = turn u in is-var (start L .args .t .now) (start L .pre .0) (L .loop .i) (inside u) e
+
 below : (u : tie.After-shared-slice-known6 Inv-loop μ-loop)
     → let L = turn u in
     let t = start L .args .t .now in
-    (leftAt t (L .loop .i) < length (L .loop .told)) × (rightAt t (L .loop .i) < length (L .loop .told))
-below u =
+    (kindAt t (L .loop .i) ≡ 1 → ⊥) → (leftAt t (L .loop .i) < length (L .loop .told)) × (rightAt t (L .loop .i) < length (L .loop .told))
+below u e =
     let L = turn u in
-    let P = start L .pre in
     let I = L .loop .inv in
-    below-any (start L .args .t .now) (P .0) (L .loop .i) (inside u) (length (L .loop .told)) (omega (arith, I .2, P .3)) (omega (arith, inside u, I .2, P .2))
+    operands-below (start L .args .t .now) (start L .pre .0) (L .loop .i) (inside u) e (length (L .loop .told)) (omega (arith, inside u, I .2, start L .pre .2))
 
--- The last row is that of the node before.
-before-it : (u : tie.After-shared-slice-known6 Inv-loop μ-loop) (n : ℕ) → let l = turn u .loop in l .i ≡ n + 1 → l .last ≡ getD (l .told) n 0
-before-it u n e =
-    let l = turn u .loop in
-    let z : l .i - 1 ≡ n = omega arith in
-    subst (λ (m : ℕ). l .last ≡ getD (l .told) m 0) z (l .inv .4 (omega arith))
-
+-- src/lib.rt:135:5
 loop-holds : tie.Need-loop-holds Inv-loop μ-loop
-loop-holds c = (search needs, search needs, search needs, told-none, λ h. absurd (omega arith))
+loop-holds c = (search needs, omega arith, refl, search needs, told-none, known-none)
 
+-- src/lib.rt:136:22
 mul-kind : tie.Need-mul-kind Inv-loop μ-loop
 mul-kind c = search needs
 
+-- src/lib.rt:136:20
 mul-kind-2 : tie.Need-mul-kind-2 Inv-loop μ-loop
 mul-kind-2 c = search needs
 
+-- src/lib.rt:136:20
 shared-slice-read-kind : tie.Need-shared-slice-read-kind Inv-loop μ-loop
 shared-slice-read-kind c = search needs
 
+-- src/lib.rt:137:22
 mul-left : tie.Need-mul-left Inv-loop μ-loop
 mul-left c = search needs
 
+-- src/lib.rt:137:22
 add-left : tie.Need-add-left Inv-loop μ-loop
 add-left c = search needs
 
+-- src/lib.rt:137:20
 mul-left-2 : tie.Need-mul-left-2 Inv-loop μ-loop
 mul-left-2 c = search needs
 
+-- src/lib.rt:137:20
 shared-slice-read-left : tie.Need-shared-slice-read-left Inv-loop μ-loop
 shared-slice-read-left c = search needs
 
+-- src/lib.rt:138:23
 mul-right : tie.Need-mul-right Inv-loop μ-loop
 mul-right c = search needs
 
+-- src/lib.rt:138:23
 add-right : tie.Need-add-right Inv-loop μ-loop
 add-right c = search needs
 
+-- src/lib.rt:138:21
 mul-right-2 : tie.Need-mul-right-2 Inv-loop μ-loop
 mul-right-2 c = search needs
 
+-- src/lib.rt:138:21
 shared-slice-read-right : tie.Need-shared-slice-read-right Inv-loop μ-loop
 shared-slice-read-right c = search needs
 
-row-at-requires : tie.Need-row-at-requires Inv-loop μ-loop
-row-at-requires c κs = let u = c .before in (below u .0, before-it u _)
+-- src/lib.rt:140:46
+slice-aggregate-learn : tie.Need-slice-aggregate-learn Inv-loop μ-loop
+slice-aggregate-learn c = search needs
 
-row-at-requires-2 : tie.Need-row-at-requires-2 Inv-loop μ-loop
-row-at-requires-2 c κs = let u = c .before .before .before in (below u .1, before-it u _)
-
-node-row-requires : tie.Need-node-row-requires Inv-loop μ-loop
-node-row-requires c κs =
-    let u = c .before .before .before .before in
+-- src/lib.rt:140:13
+learn-requires : tie.Need-learn-requires Inv-loop μ-loop
+learn-requires c κs =
+    let u = c .before .before in
     let L = turn u in
-    (start L .pre .1, is-var (start L .args .t .now) (start L .pre .0) (L .loop .i) (inside u))
+    let I = L .loop .inv in
+    (start L .pre .1, signal-below u (c .before .if1 .taken), omega (arith, I .3), I .5)
 
+-- src/lib.rt:141:28
+slice-aggregate-word : tie.Need-slice-aggregate-word Inv-loop μ-loop
+slice-aggregate-word c = search needs
+
+-- src/lib.rt:141:23
+word-requires : tie.Need-word-requires Inv-loop μ-loop
+word-requires c κs =
+    let l = c .before .before in
+    let u = l .before .before .before in
+    omega (arith, signal-below u (l .before .before .if1 .taken), l .learn .kept .1 .1 .0, turn u .loop .inv .3)
+
+-- src/lib.rt:141:13
 mul-told : tie.Need-mul-told Inv-loop μ-loop
 mul-told c = search needs
 
+-- src/lib.rt:141:13
 slice-write-told : tie.Need-slice-write-told Inv-loop μ-loop
 slice-write-told c = search needs
 
+-- src/lib.rt:143:17
+word-requires-2 : tie.Need-word-requires-2 Inv-loop μ-loop
+word-requires-2 c κs = below (c .before .before) (c .before .if1 .left) .0
+
+-- src/lib.rt:144:17
+word-requires-3 : tie.Need-word-requires-3 Inv-loop μ-loop
+word-requires-3 c κs = let e = c .before .before .before in below (e .before) (e .if1 .left) .1
+
+-- src/lib.rt:145:23
+node-row-requires : tie.Need-node-row-requires Inv-loop μ-loop
+node-row-requires c κs =
+    let u = c .before .before .before .before .before in
+    omega (arith, start (turn u) .pre .1 .most)
+
+-- src/lib.rt:145:13
+mul-told-2 : tie.Need-mul-told-2 Inv-loop μ-loop
+mul-told-2 c = search needs
+
+-- src/lib.rt:145:13
+slice-write-told-2 : tie.Need-slice-write-told-2 Inv-loop μ-loop
+slice-write-told-2 c = search needs
+
+-- src/lib.rt:147:9
 add-i : tie.Need-add-i Inv-loop μ-loop
 add-i c = search needs
 
+-- src/lib.rt:135:5
 loop-less : tie.Need-loop-less Inv-loop μ-loop
 loop-less c = search needs
 
-loop-again : tie.Need-loop-again Inv-loop μ-loop
-loop-again c =
-    let b = c .before in
-    let a = b .before .before in
-    let u = a .before .before in
+-- A row for node i.
+one-more : (u : tie.After-shared-slice-known6 Inv-loop μ-loop) (v : ℕ)
+    → let L = turn u in
+    let a = start L .args in
+    let t = a .t .now in
+    let i = L .loop .i in
+    let W = L .loop .told in
+    TellsNode (a .lead .now) (a .cycle .now) (kindAt t i) (leftAt t i) (getD W (leftAt t i) 0) (getD W (rightAt t i) 0) v
+    → Told (a .lead .now) (a .cycle .now) (nodesOf t) (i + 1) (set W i v)
+one-more u v N =
     let L = turn u in
-    let st = start L in
-    let t = st .args .t .now in
+    let t = start L .args .t .now in
+    let i = L .loop .i in
+    let I = L .loop .inv in
+    let P = start L .pre in
+    let h = inside u in
+    told-more i (kindAt t i) (leftAt t i) (rightAt t i) v (omega (arith, length-nodes t, h)) (omega (arith, h, I .2, P .2)) (node-at t i (omega arith)) (both-below t (P .0) i h) N (I .4)
+
+-- After a turn node i has its row, its signal's or its operands'.
+filled : (c : tie.Joined1 Inv-loop μ-loop)
+    → let L = turn (c .before) in
+    let a = start L .args in
+    (length (c .if1 .told) ≡ length (a .told .now))
+    × (length (c .if1 .vars) ≡ signals)
+    × Told (a .lead .now) (a .cycle .now) (nodesOf (a .t .now)) (L .loop .i + 1) (c .if1 .told)
+    × Known (a .lead .now) (a .cycle .now) (c .if1 .known) (c .if1 .vars)
+filled c =
+    let u = c .before in
+    let L = turn u in
+    let a = start L .args in
+    let t = a .t .now in
     let i = L .loop .i in
     let W = L .loop .told in
     let I = L .loop .inv in
-    let P = st .pre in
-    let w = c .node-row .result in
-    let h = inside u in
-    let room : i < length W = omega (arith, h, I .2, P .2) in
-    let told = TellsNode (st .args .lead .now) (st .args .cycle .now) (kindAt t i) (leftAt t i) in
-    let E = subst (λ (x : ℕ). told x (getD W (rightAt t i) 0) w) (a .row-at .ensures) (subst (λ (y : ℕ). told (a .row-at .result) y w) (b .row-at2 .ensures) (c .node-row .ensures)) in
-    let z : i ≡ i + 1 - 1 = omega arith in (
-      I .0,
-      search needs,
-      simp length-set (I .2),
-      told-more i (kindAt t i) (leftAt t i) (rightAt t i) _ (omega (arith, length-nodes t, h)) room (node-at t i (omega arith)) (both-below t (P .0) i h) E (I .3),
-      λ _. subst (λ (m : ℕ). w ≡ getD (set W i w) m 0) z (sym (getD-set-same W i w 0 room)),
-    )
+    let few = start L .pre .1 in
+    ⊎-elim
+    (λ w.
+    let K = w .2 .ensures in
+    let row = subst (λ (x : ℕ). Tells (a .lead .now) (a .cycle .now) x (lvar (leftAt t i))) (sym (w .5 .ensures)) (K .0 .row (leftAt t i) (signal-below u (w .0 .taken)) (K .1)) in
+    rw (w .6, w .7, w .8) (simp length-set (I .2), w .2 .kept .1 .1 .0 ∙ I .3, one-more u (w .5 .result) (tells-signal (w .0 .taken) row), K .0))
+    (λ w.
+    let node = TellsNode (a .lead .now) (a .cycle .now) (kindAt t i) (leftAt t i) in
+    let N = w .5 .ensures (a .lead .now) (a .cycle .now) (leftAt t i) few refl (w .0 .left) in
+    let M = subst (λ (y : ℕ). node (getD W (leftAt t i) 0) y (w .5 .result)) (w .4 .ensures) (subst (λ (x : ℕ). node x (w .4 .result) (w .5 .result)) (w .2 .ensures) N) in
+    rw (w .6, w .7, w .8) (simp length-set (I .2), I .3, one-more u (w .5 .result) M, I .5))
+    (c .if1 .came)
 
+-- src/lib.rt:135:5
+loop-again : tie.Need-loop-again Inv-loop μ-loop
+loop-again c =
+    let I = turn (c .before) .loop .inv in
+    let next = filled c in
+    (I .0, omega arith, next .0, next .1, next .2, next .3)
+
+-- src/lib.rt:126:1
 same-length : tie.Need-same-length Inv-loop μ-loop
 same-length c = search needs
 
+-- src/lib.rt:126:1
 returns : tie.Need-returns Inv-loop μ-loop
 returns c =
     let L = c .before in
     let st = start L in
     let t = st .args .t .now in
-    let i = L .loop .i in
     let I = L .loop .inv in
-    let P = st .pre in
     let W = L .loop .told in
     let n = length-nodes t in
-    let e : i ≡ length (nodesOf t) = omega (arith, n, I .0, I .1) in
-    let R = told-root t W (omega (arith, n, some-node t (P .0))) (subst (λ (m : ℕ). Told (st .args .lead .now) (st .args .cycle .now) (nodesOf t) m W) e (I .3)) in
+    let e : L .loop .i ≡ length (nodesOf t) = omega (arith, n, I .0, I .1) in
+    let R = told-root t W (omega (arith, n, some-node t (st .pre .0))) (subst (λ (m : ℕ). Told (st .args .lead .now) (st .args .cycle .now) (nodesOf t) m W) e (I .4)) in
     subst (λ (m : ℕ). Tells (st .args .lead .now) (st .args .cycle .now) (getD W (m - 1) 0) (treeOf t)) n R
 
 pub fill-rows-spec : {M : Type 1} → statement M
@@ -167,11 +253,17 @@ fill-rows-spec =
     add-right
     mul-right-2
     shared-slice-read-right
-    row-at-requires
-    row-at-requires-2
-    node-row-requires
+    slice-aggregate-learn
+    learn-requires
+    slice-aggregate-word
+    word-requires
     mul-told
     slice-write-told
+    word-requires-2
+    word-requires-3
+    node-row-requires
+    mul-told-2
+    slice-write-told-2
     add-i
     loop-less
     loop-again
