@@ -1,5 +1,5 @@
 -- Until on a row: a sweep from no finds each witness before the last letter, and on a loop a second sweep, from the bit at the loop's start, all.
-use mathlib.Core.Path.{_≡_, refl, sym, ap, subst, _∙_}
+use mathlib.Core.Path.{_≡_, refl, sym, subst}
 use mathlib.Core.Bool.{Bool, _&&_, _||_}
 use mathlib.Core.Logic.{_⊎_, inl, inr, _↔_, Iff·rfl}
 use mathlib.Core.List.{List}
@@ -8,7 +8,7 @@ use native.Mathlib.Omega.{arith}
 use native.Mathlib.Decide.{decLt}
 use lib.Dec.{T}
 use lib.ListN.{length}
-use Rattle.trace.specs.Letter.{bit, mostLetters}
+use Rattle.trace.specs.Letter.{bit}
 use Rattle.trace.specs.Moments.{Trace, letterAt, size, InTrace}
 use Rattle.trace.proofs.MomentsLaw.{gapless, inside-before}
 use Rattle.ltl.specs.Tree.{Ltl, luntil}
