@@ -1,8 +1,9 @@
 -- `check_psl` answers what both tables share, then what only PSL asks.
 use mathlib.Core.Path.{_≡_, sym, ap, _∙_}
 use mathlib.Core.Option.{none}
+use native.Mathlib.Omega.{arith}
 use Rattle.table.specs.Answer.{checked}
-use Rattle.table.specs.Check.{tableRefusal}
+use Rattle.table.specs.Check.{WellMade, tableRefusal}
 use Rattle.table.proofs.CheckLaw.{accepted, was-refused}
 use Rattle.psl.specs.Check.{pslRules}
 use Rattle.psl.proofs.CheckLaw.{psl-first, psl-then}
@@ -10,12 +11,16 @@ use borrow.Author.Needs.{needs}
 use Rattle.psl.proofs.check_psl.Statement.{statement}
 use Rattle.psl.proofs.check_psl.Tie as tie
 
+-- Some kinds are Booleans, so a place may ask for one.
+well-made : WellMade pslRules
+well-made = record { kinds = omega arith; sorts = λ z k h. absurd (omega arith) }
+
 -- Past the tests that both tables share.
 fine : (c : tie.After-enum-told) → tableRefusal pslRules (c .before .before .before .before .args .t .now) ≡ none
 fine c = accepted _ _ (c .before .before .check-table .ensures) (c .enum-told .given .1)
 
 check-table-requires : tie.Need-check-table-requires
-check-table-requires c κs = search needs
+check-table-requires c κs = well-made
 
 enum-told : tie.Need-enum-told
 enum-told c = search needs
