@@ -9,6 +9,7 @@ use native.Mathlib.Numerals.{add-one}
 use native.Mathlib.Decide.{decLt, ℕ-discrete}
 use lib.Dec.{eqb, ltb, leb}
 use lib.ListN.{length}
+use lib.Bits.{bitAnd, bitOr, and-mask, and-zero-r, or-zero-l, or-zero-r}
 use borrow.Author.Tests.{lt-ltb, le-ltb, eq-eqb, ne-eqb, eqb-true, ltb-true, leb-true}
 use Rattle.trace.specs.declared.Refusal.{Refusal}
 use Rattle.table.specs.declared.Place.{Place}
@@ -19,7 +20,7 @@ use Rattle.table.specs.declared.Checked.{Checked}
 use Rattle.table.specs.declared.Checked.the-variants.{Accepted, Refused}
 use Rattle.table.specs.Answer.{refused, checked}
 use Rattle.table.specs.Node.{count, kindAt, leftAt, rightAt, nodeAt}
-use Rattle.table.specs.Check.{unusedFits, signalFits, operandFits, sortFits, lowFits, allFit, lengthFits, known, mostKinds, shapeOf, asksBoolean, WellMade, unless, placesRefusal, nodeRefusal, isBoolean, refusalAt, orElse, lowest, tableRefusal}
+use Rattle.table.specs.Check.{unusedFits, signalFits, operandFits, sortFits, lowFits, allFit, lengthFits, known, mostKinds, shapeOf, masked, asksBoolean, WellMade, unless, placesRefusal, nodeRefusal, isBoolean, refusalAt, orElse, lowest, tableRefusal}
 
 -- ── Tests and answers ──
 
@@ -100,6 +101,29 @@ pub fit-below : {p : Place} {n i : ℕ} {b : Bool} → Fits p n i b → p .opera
 fit-below {p} {n} {i} f d = subst (λ (o : Bool). n < cond o i (p .limit)) d (f .low)
 
 -- ── Both places, as the loop tests them ──
+
+-- A mask keeps a number or clears it, as the place has an operand or not.
+mask-is : (o : Bool) (k m : ℕ) → cond o (eqb k 65535 && eqb m 0) (eqb k 0) ≡ true → (k ≡ cond o 65535 0) × (o ≡ true → m ≡ 0)
+mask-is true k m e = let b = both-true (eqb k 65535) (eqb m 0) e in (eqb-true k 65535 (b .0), λ _. eqb-true m 0 (b .1))
+mask-is false k m e = (eqb-true k 0 e, λ d. absurd (not-both true refl (sym d)))
+
+and-ones : (n : ℕ) → n < 65536 → bitAnd n 65535 ≡ n
+and-ones n h = let z : bitAnd n 65535 ≡ n % 65536 = and-mask n 16 in omega arith
+
+module _ (p : Place) (e : masked p ≡ true) where
+  pub named-is : (n : ℕ) → n < 65536 → bitAnd n (p .mask) ≡ cond (p .operand) n 0
+  named-is n h = rw (mask-is (p .operand) (p .mask) (p .limit) e .0) (go (p .operand))
+    where
+      go : (o : Bool) → bitAnd n (cond o 65535 0) ≡ cond o n 0
+      go true = and-ones n h
+      go false = and-zero-r n
+
+  pub bound-is : (i : ℕ) → i < 65536 → bitOr (bitAnd i (p .mask)) (p .limit) ≡ cond (p .operand) i (p .limit)
+  bound-is i h = rw (named-is i h) (go (p .operand) (mask-is (p .operand) (p .mask) (p .limit) e .1))
+    where
+      go : (o : Bool) → (o ≡ true → p .limit ≡ 0) → bitOr (cond o i 0) (p .limit) ≡ cond o i (p .limit)
+      go true z = rw (z refl) (or-zero-r i)
+      go false z = or-zero-l (p .limit)
 
 either-false : (a b : Bool) → a || b ≡ false → (a ≡ false) × (b ≡ false)
 either-false true b e = absurd (not-both true refl e)
@@ -213,6 +237,13 @@ module _ (R : Rules) (k : ℕ) (e : known R k ≡ true) where
 
   pub known-low : k < mostKinds
   known-low = ltb-true k mostKinds (both-true (ltb k (R .kinds)) (ltb k mostKinds) e .1)
+
+module _ {R : Rules} (w : WellMade R) (k : ℕ) (h : k < mostKinds) where
+  pub left-masked : masked (shapeOf R k .0) ≡ true
+  left-masked = both-true (masked (shapeOf R k .0)) (masked (shapeOf R k .1)) (w .masks k h) .0
+
+  pub right-masked : masked (shapeOf R k .1) ≡ true
+  right-masked = both-true (masked (shapeOf R k .0)) (masked (shapeOf R k .1)) (w .masks k h) .1
 
 -- The loop tests only that a kind is below the number of kinds.
 pub kind-known : {R : Rules} (w : WellMade R) (k : ℕ) → k < R .kinds → known R k ≡ true

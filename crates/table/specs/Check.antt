@@ -17,12 +17,12 @@ use Rattle.table.specs.Answer.{refused}
 
 -- ── What a place holds ──
 
--- A number below a limit, or the number of an operand, Boolean or not.
+-- A number below a limit, or the number of an operand, Boolean or not. The mask, all zeros or all ones, tells the code which of the two.
 abbrev pub below : ℕ → Place
-below m = record { operand = false; boolean = false; limit = m }
+below m = record { operand = false; boolean = false; mask = 0; limit = m }
 
 abbrev pub operand : Bool → Place
-operand b = record { operand = true; boolean = b; limit = 0 }
+operand b = record { operand = true; boolean = b; mask = 65535; limit = 0 }
 
 abbrev pub unused : Place
 unused = below 1
@@ -83,13 +83,18 @@ known R k = ltb k (R .kinds) && ltb k mostKinds
 abbrev pub shapeOf : Rules → ℕ → Shape
 shapeOf R k = getD (R .shapes) k (places (below 0) (below 0))
 
+-- The mask of a place is right, and an operand has no limit.
+abbrev pub masked : Place → Bool
+masked p = cond (p .operand) (eqb (p .mask) 65535 && eqb (p .limit) 0) (eqb (p .mask) 0)
+
 -- A place of the shape asks for a Boolean.
 abbrev pub asksBoolean : Shape → Bool
 asksBoolean h = (h .0 .operand && h .0 .boolean) || (h .1 .operand && h .1 .boolean)
 
--- Rules that a check can use: every kind has a shape, and a Boolean is asked for only where some kinds are Booleans.
+-- Rules that a check can use: every kind has a shape, its masks are right, and a Boolean is asked for only where some kinds are Booleans.
 pub record WellMade (R : Rules) : Type 0 where
   pub kinds : R .kinds ≤ mostKinds
+  pub masks : (k : ℕ) → k < mostKinds → masked (shapeOf R k .0) && masked (shapeOf R k .1) ≡ true
   pub sorts : R .booleans ≡ 0 → (k : ℕ) → k < mostKinds → asksBoolean (shapeOf R k) ≡ false
 
 -- ── The refusals ──

@@ -1,14 +1,14 @@
 // Tables of triples: what PSL and LTL tables share.
 use trace::Refusal;
 ghost use mathlib.Core.Path.{_≡_};
-ghost use mathlib.Core.Bool.{false, cond, _&&_};
+ghost use mathlib.Core.Bool.{true, false, cond, _&&_};
 ghost use mathlib.Core.Option.{Option, none};
 ghost use Prim.Native.Nat.{_<_, _≤_};
 ghost use lib.Dec.{ltb};
 ghost use Rattle.trace.specs.declared.Refusal.{Refusal};
 ghost use Rattle.table.specs.Node.{node, count, kindAt};
 ghost use Rattle.table.specs.Answer.{refused, checked};
-ghost use Rattle.table.specs.Check.{lengthFits, unusedFits, signalFits, operandFits, sortFits, allFit, asksBoolean, WellMade, unless, placesRefusal, nodeRefusal, refusalAt, lowest, tableRefusal};
+ghost use Rattle.table.specs.Check.{lengthFits, unusedFits, signalFits, operandFits, sortFits, allFit, masked, asksBoolean, WellMade, unless, placesRefusal, nodeRefusal, refusalAt, lowest, tableRefusal};
 
 // The number of a node, counted from 0 along a table: never a point of time.
 pub struct NodeNo(pub u16);
@@ -19,35 +19,43 @@ pub const SIGNALS: u16 = 32;
 // How many kinds a table can have.
 pub const KINDS: u16 = 11;
 
+// The mask of a place that holds an operand.
+pub const ONES: u16 = 65535;
+
 // What a place of a node holds: the number of an operand, Boolean or not, or else a number below the limit. Data and not an enum, so that
-// the test of a node takes no branch on its kind.
+// the test of a node takes no branch on its kind; the mask, all ones for an operand, is there for the same reason.
 pub struct Place {
     pub operand: bool,
     pub boolean: bool,
+    pub mask: u16,
     pub limit: u16,
 }
 
 pub const UNUSED: Place = Place {
     operand: false,
     boolean: false,
+    mask: 0,
     limit: 1,
 };
 
 pub const SIGNAL: Place = Place {
     operand: false,
     boolean: false,
+    mask: 0,
     limit: SIGNALS,
 };
 
 pub const BOOLEAN: Place = Place {
     operand: true,
     boolean: true,
+    mask: ONES,
     limit: 0,
 };
 
 pub const FORMULA: Place = Place {
     operand: true,
     boolean: false,
+    mask: ONES,
     limit: 0,
 };
 
@@ -114,9 +122,10 @@ fn sort_fits(p: Place, b: bool) -> bool
 
 // What a place of node i holds is below this.
 fn bound(p: Place, i: u16) -> u16
+    requires { ⌜ masked p ≡ true ⌝ }
     ensures { λ r. ⌜ r ≡ cond (p .operand) i (p .limit) ⌝ }
 {
-    if p.operand { i } else { p.limit }
+    (i & p.mask) | p.limit
 }
 
 // The kind of a node, 0 past the last.
@@ -129,14 +138,15 @@ fn kind_at(t: &[u16], n: u16) -> u16
 
 // The node whose kind is read for a place: where the place has no operand, any will do.
 fn named(p: Place, n: u16) -> u16
+    requires { ⌜ masked p ≡ true ⌝ }
     ensures { λ r. ⌜ r ≡ cond (p .operand) n 0 ⌝ }
 {
-    if p.operand { n } else { 0 }
+    n & p.mask
 }
 
 // What place p names is of its sort.
 fn named_fits(p: Place, n: u16, t: &[u16], booleans: u16) -> bool
-    requires { ⌜ cond (p .operand) n 0 < count (now t) ⌝ }
+    requires { ⌜ (masked p ≡ true) × (cond (p .operand) n 0 < count (now t)) ⌝ }
     ensures { λ r. ⌜ r ≡ sortFits p (ltb (kindAt (now (t .entry)) n) booleans) ⌝ }
 {
     let m = named(p, n) as usize;
@@ -146,7 +156,7 @@ fn named_fits(p: Place, n: u16, t: &[u16], booleans: u16) -> bool
 // All four tests at once, and for both places, without a branch on what a place holds: first that it is low enough, then, where there are
 // Booleans, its sort.
 fn places_fit(h: Shape, i: u16, l: u16, r: u16, t: &[u16], booleans: u16) -> bool
-    requires { ⌜ (i < count (now t)) × (booleans ≡ 0 → asksBoolean h ≡ false) ⌝ }
+    requires { ⌜ (i < count (now t)) × (masked (h .0) ≡ true) × (masked (h .1) ≡ true) × (booleans ≡ 0 → asksBoolean h ≡ false) ⌝ }
     ensures { λ x. ⌜ x ≡ (allFit (h .0) l i (ltb (kindAt (now (t .entry)) l) booleans) && allFit (h .1) r i (ltb (kindAt (now (t .entry)) r) booleans)) ⌝ }
 {
     let p = h.0;

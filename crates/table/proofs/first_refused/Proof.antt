@@ -7,7 +7,7 @@ use mathlib.Core.Option.{none}
 use native.Mathlib.Omega.{arith}
 use Rattle.table.specs.Node.{count, kindAt}
 use Rattle.table.specs.Check.{mostKinds, refusalAt, lowest}
-use Rattle.table.proofs.CheckLaw.{kind-known, kind-unknown, fast-none, fast-some, unknown-some, lowest-zero, lowest-next}
+use Rattle.table.proofs.CheckLaw.{left-masked, right-masked, kind-known, kind-unknown, fast-none, fast-some, unknown-some, lowest-zero, lowest-next}
 use Rattle.table.proofs.first_refused.Statement.{statement}
 use Rattle.table.proofs.first_refused.Tie as tie
 
@@ -78,8 +78,8 @@ cast-places-fit c = search needs
 places-fit-requires : tie.Need-places-fit-requires Inv-loop μ-loop
 places-fit-requires c κs =
     let u = c .before in
-    let lp = u .before .before .before .before .before in
-    (omega arith, λ z. lp .before .before .pre .1 .sorts z _ (low-kind u))
+    let W = u .before .before .before .before .before .before .before .pre .1 in
+    (omega arith, left-masked W _ (low-kind u), right-masked W _ (low-kind u), λ z. W .sorts z _ (low-kind u))
 
 returns-2 : tie.Need-returns-2 Inv-loop μ-loop
 returns-2 c =

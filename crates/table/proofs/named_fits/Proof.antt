@@ -6,7 +6,7 @@ use Rattle.table.proofs.named_fits.Statement.{statement}
 use Rattle.table.proofs.named_fits.Tie as tie
 
 named-requires : tie.Need-named-requires
-named-requires c κs = search needs
+named-requires c κs = c .before .pre .0
 
 cast-m : tie.Need-cast-m
 cast-m c = search needs

@@ -16,10 +16,10 @@ low : (e : tie.Else1) → let a = start (e .before) .args in BothLow (a .h) (a .
 low e = rw (← e .before .before .bound .ensures, ← e .before .bound2 .ensures) (not-false _ (e .if1 .left))
 
 bound-requires : tie.Need-bound-requires
-bound-requires c κs = search needs
+bound-requires c κs = c .before .before .before .pre .1
 
 bound-requires-2 : tie.Need-bound-requires-2
-bound-requires-2 c κs = search needs
+bound-requires-2 c κs = c .before .before .before .before .pre .2
 
 returns : tie.Need-returns
 returns c =
@@ -32,20 +32,20 @@ returns-2 c =
     let st = start (c .before .before) in
     let a = st .args in
     let z : a .booleans ≡ 0 = omega arith in
-    low-plain (a .h) (a .i) (a .l) (a .r) (a .t .now) (a .booleans) (low (c .before)) z (st .pre .1 z)
+    low-plain (a .h) (a .i) (a .l) (a .r) (a .t .now) (a .booleans) (low (c .before)) z (st .pre .3 z)
 
 named-fits-requires : tie.Need-named-fits-requires
 named-fits-requires c κs =
     let st = start (c .before .before) in
     let a = st .args in
-    left-in (a .h) (a .i) (a .l) (a .r) (a .t .now) (a .booleans) (low (c .before)) (st .pre .0)
+    (st .pre .1, left-in (a .h) (a .i) (a .l) (a .r) (a .t .now) (a .booleans) (low (c .before)) (st .pre .0))
 
 named-fits-requires-2 : tie.Need-named-fits-requires-2
 named-fits-requires-2 c κs =
     let e = c .before .before in
     let st = start (e .before) in
     let a = st .args in
-    right-in (a .h) (a .i) (a .l) (a .r) (a .t .now) (a .booleans) (low e) (st .pre .0)
+    (st .pre .2, right-in (a .h) (a .i) (a .l) (a .r) (a .t .now) (a .booleans) (low e) (st .pre .0))
 
 returns-3 : tie.Need-returns-3
 returns-3 c =
