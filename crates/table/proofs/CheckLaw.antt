@@ -3,7 +3,7 @@ use mathlib.Core.Path.{_≡_, refl, sym, ap, _∙_, subst}
 use mathlib.Core.Bool.{Bool, true, false, not, cond, _&&_, _||_, and-false, Bool·beq}
 use mathlib.Core.Option.{Option, none, some}
 use mathlib.Core.List.{List}
-use Prim.Native.Nat.{ℕ, zero, suc, _+_, _*_, _/_, _%_, _≤_, _<_}
+use Prim.Native.Nat.{ℕ, zero, suc, _+_, _*_, _-_, _/_, _%_, _≤_, _<_}
 use native.Mathlib.Omega.{arith}
 use native.Mathlib.Numerals.{add-one}
 use native.Mathlib.Decide.{decLt, ℕ-discrete}
@@ -117,6 +117,14 @@ module _ (p : Place) (e : masked p ≡ true) where
       go : (o : Bool) → bitAnd n (cond o 65535 0) ≡ cond o n 0
       go true = and-ones n h
       go false = and-zero-r n
+
+  -- The mask's complement keeps what the mask clears.
+  pub other-is : (n : ℕ) → n < 65536 → bitAnd n (65535 - p .mask) ≡ cond (p .operand) 0 n
+  other-is n h = rw (mask-is (p .operand) (p .mask) (p .limit) e .0) (go (p .operand))
+    where
+      go : (o : Bool) → bitAnd n (65535 - cond o 65535 0) ≡ cond o 0 n
+      go true = and-zero-r n
+      go false = and-ones n h
 
   pub bound-is : (i : ℕ) → i < 65536 → bitOr (bitAnd i (p .mask)) (p .limit) ≡ cond (p .operand) i (p .limit)
   bound-is i h = rw (named-is i h) (go (p .operand) (mask-is (p .operand) (p .mask) (p .limit) e .1))

@@ -1,33 +1,21 @@
 -- `check_psl` answers what both tables share, then what only PSL asks.
-use mathlib.Core.Path.{_≡_, refl, sym, ap, _∙_}
-use mathlib.Core.Bool.{_&&_}
+use mathlib.Core.Path.{_≡_, sym, ap, _∙_}
 use mathlib.Core.Option.{none}
-use native.Mathlib.Omega.{arith}
 use Rattle.table.specs.Answer.{checked}
-use Rattle.table.specs.Check.{shapeOf, masked, WellMade, tableRefusal}
-use Rattle.table.proofs.KindLaw.{every}
+use Rattle.table.specs.Check.{tableRefusal}
 use Rattle.table.proofs.CheckLaw.{accepted, was-refused}
 use Rattle.psl.specs.Check.{pslRules}
-use Rattle.psl.proofs.CheckLaw.{psl-first, psl-then}
+use Rattle.psl.proofs.CheckLaw.{rules-made, psl-first, psl-then}
 use borrow.Author.Needs.{needs}
 use Rattle.psl.proofs.check_psl.Statement.{statement}
 use Rattle.psl.proofs.check_psl.Tie as tie
-
--- Some kinds are Booleans, so a place may ask for one.
-well-made : WellMade pslRules
-well-made =
-    record {
-      kinds = omega arith;
-      masks = every (λ j. masked (shapeOf pslRules j .0) && masked (shapeOf pslRules j .1)) 11 refl;
-      sorts = λ z k h. absurd (omega arith);
-    }
 
 -- Past the tests that both tables share.
 fine : (c : tie.After-enum-told) → tableRefusal pslRules (c .before .before .before .before .args .t .now) ≡ none
 fine c = accepted _ _ (c .before .before .check-table .ensures) (c .enum-told .given .1)
 
 check-table-requires : tie.Need-check-table-requires
-check-table-requires c κs = well-made
+check-table-requires c κs = rules-made
 
 enum-told : tie.Need-enum-told
 enum-told c = search needs
