@@ -10,19 +10,21 @@ use native.Mathlib.Decide.{ℕ-discrete}
 use lib.Dec.{eqb, leb}
 use lib.ListN.{length, getD, set, length-set, replicate, length-replicate, getD-replicate}
 use lib.Seq.{getD-set-same, getD-set-other}
+use lib.Bits.{bitAnd, bitOr, or-zero-l, or-zero-r}
 use borrow.Author.Tests.{eq-eqb, ne-eqb, eqb-true, leb-true, not-true}
 use Rattle.trace.specs.declared.Refusal.{Refusal}
 use Rattle.table.specs.declared.Place.{Place}
 use Rattle.table.specs.Answer.{refused}
 use Rattle.table.specs.Node.{count, kindAt, leftAt, rightAt}
-use Rattle.table.specs.Check.{shapeOf, isBoolean, lowest, tableRefusal, total}
-use Rattle.table.proofs.CheckLaw.{unless-none, or-none, Sound, fit-below, known-kind, table-sized, table-sound, lowest-some, none-below}
+use Rattle.table.specs.Check.{shapeOf, masked, WellMade, isBoolean, lowest, tableRefusal, total}
+use Rattle.table.proofs.KindLaw.{every}
+use Rattle.table.proofs.CheckLaw.{unless-none, or-none, named-is, other-is, left-masked, right-masked, Fits, Sound, known-kind, table-sized, table-sound, lowest-some, none-below}
 use Rattle.psl.specs.Check.{pslRules, one, names, namesAt, uses, useRefusal, rootRefusal, treeRefusal, pslRefusal}
 use Rattle.psl.specs.Counts.{Counted, Tallied}
 
 -- ── Counts ──
 
-one-low : (b : Bool) → one b ≤ 1
+pub one-low : (b : Bool) → one b ≤ 1
 one-low true = omega arith
 one-low false = omega arith
 
@@ -45,9 +47,25 @@ unfolding total
 uses-low t j zero = omega arith
 uses-low t j (suc i) = omega (arith, uses-low t j i, names-low t j i)
 
+pub rules-made : WellMade pslRules
+rules-made =
+    record {
+      kinds = omega arith;
+      masks = every (λ j. masked (shapeOf pslRules j .0) && masked (shapeOf pslRules j .1)) 11 refl;
+      sorts = λ z k h. absurd (omega arith);
+    }
+
+-- Where the place p of node i is counted, if it holds n.
+pub place-at : (p : Place) (n i : ℕ) → masked p ≡ true → n < 65536 → i < 65536 → bitOr (bitAnd n (p .mask)) (bitAnd i (65535 - p .mask)) ≡ cond (p .operand) n i
+place-at p n i e h g = rw (named-is p e n h, other-is p e i g) (go (p .operand))
+  where
+    go : (o : Bool) → bitOr (cond o n 0) (cond o 0 i) ≡ cond o n i
+    go true = or-zero-r n
+    go false = or-zero-l i
+
 -- A place that holds n is counted.
 module _ (p : Place) (n : ℕ) (c : List ℕ) where
-  pub counted-operand : p .operand ≡ true → n < length c → Counted p n c (set c n (getD c n 0 + 1))
+  counted-operand : p .operand ≡ true → n < length c → Counted p n c (set c n (getD c n 0 + 1))
   counted-operand e h =
       record {
         same = length-set c n (getD c n 0 + 1);
@@ -59,8 +77,31 @@ module _ (p : Place) (n : ℕ) (c : List ℕ) where
         ];
       }
 
-  pub counted-other : p .operand ≡ false → Counted p n c c
-  counted-other e = record { same = refl; more = λ j l. let z : names p n j ≡ 0 = rw e in omega arith }
+  counted-other : (i : ℕ) → p .operand ≡ false → i < length c → Counted p n c (set c i (getD c i 0 + 0))
+  counted-other i e h =
+      record {
+        same = length-set c i (getD c i 0 + 0);
+        more = λ j l.
+            let z : names p n j ≡ 0 = rw e in
+            elim (ℕ-discrete i j) [
+              | yes d ↦
+                  subst (λ (m : ℕ). getD (set c i (getD c i 0 + 0)) m 0 ≡ getD c m 0 + names p n j) d
+                  (getD-set-same c i (getD c i 0 + 0) 0 h ∙ omega arith)
+              | no d ↦ getD-set-other c i j (getD c i 0 + 0) 0 (λ q. d (sym q)) ∙ omega arith
+            ];
+      }
+
+  -- An operand gets one more, and node i nothing more where there is none.
+  pub counted : (i : ℕ) → let at = cond (p .operand) n i in at < length c → Counted p n c (set c at (getD c at 0 + one (p .operand)))
+  counted i = go (p .operand) refl
+    where
+      go : (o : Bool) → p .operand ≡ o → let at = cond o n i in at < length c → Counted p n c (set c at (getD c at 0 + one o))
+      go true e h = counted-operand e h
+      go false e h = counted-other i e h
+
+own-or-below : (o : Bool) (m n i : ℕ) → n < cond o i m → cond o n i ≤ i
+own-or-below true m n i h = omega arith
+own-or-below false m n i h = omega arith
 
 -- Cleared counts, before the first node.
 pub untallied : (t : List ℕ) (n : ℕ) → tableRefusal pslRules t ≡ none → count t ≤ n → Tallied t 0 (replicate n 0)
@@ -80,7 +121,7 @@ module _ {t : List ℕ} {i : ℕ} {c : List ℕ} (T : Tallied t i c) (h : i < co
   pub kind-low : kindAt t i < 11
   kind-low = known-kind pslRules (kindAt t i) (sound .kind)
 
-  few : i < 1024
+  pub few : i < 1024
   few = omega (arith, table-sized pslRules t (T .table) .low)
 
   abbrev pub left : Place
@@ -89,17 +130,22 @@ module _ {t : List ℕ} {i : ℕ} {c : List ℕ} (T : Tallied t i c) (h : i < co
   abbrev pub right : Place
   right = shapeOf pslRules (kindAt t i) .1
 
-  -- An operand's count has room for one more.
-  pub left-room : left .operand ≡ true → (leftAt t i < length c) × (getD c (leftAt t i) 0 < 65535)
-  left-room e =
-      let l : leftAt t i < length c = omega (arith, T .for-nodes, fit-below (sound .left) e) in
-      (l, omega (arith, few, T .counts (leftAt t i) l, uses-low t (leftAt t i) i))
+  -- The count that a place adds to has room for one more.
+  room : (p : Place) (n : ℕ) {b : Bool} → Fits p n i b → let at = cond (p .operand) n i in (at < length c) × (getD c at 0 < 65534)
+  room p n f =
+      let at = cond (p .operand) n i in
+      let l : at < length c = omega (arith, T .for-nodes, own-or-below (p .operand) (p .limit) n i (f .low)) in
+      (l, omega (arith, few, T .counts at l, uses-low t at i))
+
+  pub left-room : let at = cond (left .operand) (leftAt t i) i in (masked left ≡ true) × (at < length c) × (getD c at 0 < 65535)
+  left-room = let r = room left (leftAt t i) (sound .left) in (left-masked rules-made _ kind-low, r .0, omega arith)
 
   module _ (d : List ℕ) (L : Counted left (leftAt t i) c d) where
-    pub right-room : right .operand ≡ true → (rightAt t i < length d) × (getD d (rightAt t i) 0 < 65535)
-    right-room e =
-        let r : rightAt t i < length c = omega (arith, T .for-nodes, fit-below (sound .right) e) in
-        (omega (arith, r, L .same), omega (arith, few, L .more (rightAt t i) r, T .counts (rightAt t i) r, uses-low t (rightAt t i) i, one-low (left .operand && eqb (leftAt t i) (rightAt t i))))
+    pub right-room : let at = cond (right .operand) (rightAt t i) i in (masked right ≡ true) × (at < length d) × (getD d at 0 < 65535)
+    right-room =
+        let at = cond (right .operand) (rightAt t i) i in
+        let r = room right (rightAt t i) (sound .right) in
+        (right-masked rules-made _ kind-low, omega (arith, L .same), omega (arith, L .more at (r .0), one-low (left .operand && eqb (leftAt t i) at)))
 
     pub tallied-next : (e : List ℕ) → Counted right (rightAt t i) d e → Tallied t (i + 1) e
     unfolding total namesAt

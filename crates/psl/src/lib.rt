@@ -10,14 +10,14 @@ use table::Shape;
 use table::UNUSED;
 use trace::Refusal;
 ghost use mathlib.Core.Path.{_≡_};
-ghost use mathlib.Core.Bool.{true};
+ghost use mathlib.Core.Bool.{true, cond};
 ghost use Prim.Native.Nat.{_<_};
 ghost use lib.ListN.{length, getD};
 ghost use mathlib.Core.Option.{none};
 ghost use Rattle.table.specs.Answer.{checked};
 ghost use Rattle.table.specs.Node.{count};
-ghost use Rattle.table.specs.Check.{tableRefusal};
-ghost use Rattle.psl.specs.Check.{pslRules, treeRefusal, pslRefusal};
+ghost use Rattle.table.specs.Check.{masked, tableRefusal};
+ghost use Rattle.psl.specs.Check.{pslRules, one, treeRefusal, pslRefusal};
 ghost use Rattle.psl.specs.Counts.{Counted, Tallied};
 
 // What stands left and right, kind by kind. The first four kinds are Booleans, the others formulas.
@@ -48,14 +48,29 @@ pub const PSL: Rules = Rules {
     },
 };
 
-// A place that holds n is counted: if that is an operand, it is used once more.
-fn count_place(p: Place, n: u16, c: &mut [u16])
-    requires { ⌜ (p .operand ≡ true → (n < length (now c)) × (getD (now c) n 0 < 65535)) ⌝ }
+// Where a place that holds n is counted: at its operand, or else at its own node i.
+fn counted_at(p: Place, n: u16, i: u16) -> u16
+    requires { ⌜ masked p ≡ true ⌝ }
+    ensures { λ r. ⌜ r ≡ cond (p .operand) n i ⌝ }
+{
+    (n & p.mask) | (i & !p.mask)
+}
+
+fn one(b: bool) -> u16
+    ensures { λ r. ⌜ r ≡ one b ⌝ }
+{
+    if b { 1 } else { 0 }
+}
+
+// A place of node i that holds n is counted: if that is an operand, it is used once more. Nothing is added where it is none, which takes no
+// branch.
+fn count_place(p: Place, n: u16, i: u16, c: &mut [u16])
+    requires { ⌜ (masked p ≡ true) × (cond (p .operand) n i < length (now c)) × (getD (now c) (cond (p .operand) n i) 0 < 65535) ⌝ }
     ensures { λ _. ⌜ Counted p n (now (c .entry)) (now (c .exit)) ⌝ }
 {
-    if p.operand {
-        c[n as usize] += 1;
-    }
+    let at = counted_at(p, n, i) as usize;
+    let more = one(p.operand);
+    c[at] += more;
 }
 
 // How often each node is an operand, counted from nothing.
@@ -71,8 +86,8 @@ fn count_uses(t: &[u16], c: &mut [u16])
         let h = rules.shapes[k];
         let p = h.0;
         let q = h.1;
-        count_place(p, t[3 * i + 1], &mut *c);
-        count_place(q, t[3 * i + 2], &mut *c);
+        count_place(p, t[3 * i + 1], i as u16, &mut *c);
+        count_place(q, t[3 * i + 2], i as u16, &mut *c);
         i += 1;
     }
 }

@@ -1,14 +1,15 @@
 -- Laws of the check that both tables share: when a node is refused, which refusal decides, and what a table that is not refused is like.
 use mathlib.Core.Path.{_≡_, refl, sym, ap, _∙_, subst}
-use mathlib.Core.Bool.{Bool, true, false, not, cond, _&&_, _||_, and-true, Bool·beq}
+use mathlib.Core.Bool.{Bool, true, false, not, cond, _&&_, _||_, and-false, Bool·beq}
 use mathlib.Core.Option.{Option, none, some}
 use mathlib.Core.List.{List}
-use Prim.Native.Nat.{ℕ, zero, suc, _+_, _*_, _/_, _%_, _≤_, _<_}
+use Prim.Native.Nat.{ℕ, zero, suc, _+_, _*_, _-_, _/_, _%_, _≤_, _<_}
 use native.Mathlib.Omega.{arith}
 use native.Mathlib.Numerals.{add-one}
 use native.Mathlib.Decide.{decLt, ℕ-discrete}
 use lib.Dec.{eqb, ltb, leb}
 use lib.ListN.{length}
+use lib.Bits.{bitAnd, bitOr, and-mask, and-zero-r, or-zero-l, or-zero-r}
 use borrow.Author.Tests.{lt-ltb, le-ltb, eq-eqb, ne-eqb, eqb-true, ltb-true, leb-true}
 use Rattle.trace.specs.declared.Refusal.{Refusal}
 use Rattle.table.specs.declared.Place.{Place}
@@ -19,7 +20,7 @@ use Rattle.table.specs.declared.Checked.{Checked}
 use Rattle.table.specs.declared.Checked.the-variants.{Accepted, Refused}
 use Rattle.table.specs.Answer.{refused, checked}
 use Rattle.table.specs.Node.{count, kindAt, leftAt, rightAt, nodeAt}
-use Rattle.table.specs.Check.{unusedFits, signalFits, operandFits, sortFits, allFit, lengthFits, known, mostKinds, shapeOf, unless, placesRefusal, nodeRefusal, isBoolean, refusalAt, orElse, lowest, tableRefusal}
+use Rattle.table.specs.Check.{unusedFits, signalFits, operandFits, sortFits, lowFits, allFit, lengthFits, known, mostKinds, shapeOf, masked, asksBoolean, WellMade, unless, placesRefusal, nodeRefusal, isBoolean, refusalAt, orElse, lowest, tableRefusal}
 
 -- ── Tests and answers ──
 
@@ -93,26 +94,109 @@ sort-is true false true e d = e
 sort-is true false false e d = refl
 sort-is false b m e d = absurd (not-both true refl (sym d))
 
--- All tests as the code makes them: by no kind where there are no Booleans, by the limit alone where there is no operand.
-pub no-booleans : (p : Place) (n i k m : ℕ) → m ≡ 0 → allFit p n i false ≡ allFit p n i (ltb k m)
-no-booleans p n i k m e = rw (e, le-ltb k 0 (omega arith))
-
-module _ (p : Place) (n i : ℕ) (b : Bool) where
-  pub no-operand : p .operand ≡ false → ltb n (p .limit) ≡ allFit p n i b
-  no-operand e = rw e (sym (and-true (ltb n (p .limit))))
-
-  module _ (e : p .operand ≡ true) where
-    pub not-below : i ≤ n → false ≡ allFit p n i b
-    not-below h = rw (e, le-ltb n i h)
-
-    pub below-user : n < i → Bool·beq b (p .boolean) ≡ allFit p n i b
-    below-user h = rw (e, lt-ltb n i h)
-
 pub fit-sort : {p : Place} {n i : ℕ} {b : Bool} → Fits p n i b → p .operand ≡ true → b ≡ p .boolean
 fit-sort {p} {n} {i} {b} f d = sort-is (p .operand) b (p .boolean) (f .sort) d
 
 pub fit-below : {p : Place} {n i : ℕ} {b : Bool} → Fits p n i b → p .operand ≡ true → n < i
 fit-below {p} {n} {i} f d = subst (λ (o : Bool). n < cond o i (p .limit)) d (f .low)
+
+-- ── Both places, as the loop tests them ──
+
+-- A mask keeps a number or clears it, as the place has an operand or not.
+mask-is : (o : Bool) (k m : ℕ) → cond o (eqb k 65535 && eqb m 0) (eqb k 0) ≡ true → (k ≡ cond o 65535 0) × (o ≡ true → m ≡ 0)
+mask-is true k m e = let b = both-true (eqb k 65535) (eqb m 0) e in (eqb-true k 65535 (b .0), λ _. eqb-true m 0 (b .1))
+mask-is false k m e = (eqb-true k 0 e, λ d. absurd (not-both true refl (sym d)))
+
+and-ones : (n : ℕ) → n < 65536 → bitAnd n 65535 ≡ n
+and-ones n h = let z : bitAnd n 65535 ≡ n % 65536 = and-mask n 16 in omega arith
+
+module _ (p : Place) (e : masked p ≡ true) where
+  pub named-is : (n : ℕ) → n < 65536 → bitAnd n (p .mask) ≡ cond (p .operand) n 0
+  named-is n h = rw (mask-is (p .operand) (p .mask) (p .limit) e .0) (go (p .operand))
+    where
+      go : (o : Bool) → bitAnd n (cond o 65535 0) ≡ cond o n 0
+      go true = and-ones n h
+      go false = and-zero-r n
+
+  -- The mask's complement keeps what the mask clears.
+  pub other-is : (n : ℕ) → n < 65536 → bitAnd n (65535 - p .mask) ≡ cond (p .operand) 0 n
+  other-is n h = rw (mask-is (p .operand) (p .mask) (p .limit) e .0) (go (p .operand))
+    where
+      go : (o : Bool) → bitAnd n (65535 - cond o 65535 0) ≡ cond o 0 n
+      go true = and-zero-r n
+      go false = and-ones n h
+
+  pub bound-is : (i : ℕ) → i < 65536 → bitOr (bitAnd i (p .mask)) (p .limit) ≡ cond (p .operand) i (p .limit)
+  bound-is i h = rw (named-is i h) (go (p .operand) (mask-is (p .operand) (p .mask) (p .limit) e .1))
+    where
+      go : (o : Bool) → (o ≡ true → p .limit ≡ 0) → bitOr (cond o i 0) (p .limit) ≡ cond o i (p .limit)
+      go true z = rw (z refl) (or-zero-r i)
+      go false z = or-zero-l (p .limit)
+
+either-false : (a b : Bool) → a || b ≡ false → (a ≡ false) × (b ≡ false)
+either-false true b e = absurd (not-both true refl e)
+either-false false b e = (refl, e)
+
+one-fails : (a b c d : Bool) → a && b ≡ false → false ≡ (a && c) && (b && d)
+one-fails true true c d e = absurd (not-both true refl e)
+one-fails true false c d e = sym (and-false c)
+one-fails false b c d e = refl
+
+plain-sort : (o b : Bool) → o && b ≡ false → not o || Bool·beq false b ≡ true
+plain-sort true true e = absurd (not-both true refl e)
+plain-sort true false e = refl
+plain-sort false b e = refl
+
+named-in : (o : Bool) (m n i c : ℕ) → n < cond o i m → i < c → cond o n 0 < c
+named-in true m n i c h g = omega arith
+named-in false m n i c h g = omega arith
+
+-- Where there is no operand, any kind will do.
+pub named-sort : (p : Place) (t : List ℕ) (n m : ℕ) → sortFits p (ltb (kindAt t (cond (p .operand) n 0)) m) ≡ sortFits p (ltb (kindAt t n) m)
+named-sort p t n m = go (p .operand) (p .boolean)
+  where
+    go : (o b : Bool) → not o || Bool·beq (ltb (kindAt t (cond o n 0)) m) b ≡ not o || Bool·beq (ltb (kindAt t n) m) b
+    go true b = refl
+    go false b = refl
+
+abbrev pub BothLow : Shape → ℕ → ℕ → ℕ → Bool
+BothLow h i l r = lowFits (h .0) l i && lowFits (h .1) r i
+
+-- What the places l and r name in t has its kind; those below m are Booleans.
+module _ (h : Shape) (i l r : ℕ) (t : List ℕ) (m : ℕ) where
+  abbrev BothFit : Bool
+  BothFit = allFit (h .0) l i (ltb (kindAt t l) m) && allFit (h .1) r i (ltb (kindAt t r) m)
+
+  pub not-low : BothLow h i l r ≡ false → false ≡ BothFit
+  not-low e = one-fails (lowFits (h .0) l i) (lowFits (h .1) r i) (sortFits (h .0) (ltb (kindAt t l) m)) (sortFits (h .1) (ltb (kindAt t r) m)) e
+
+  module _ (e : BothLow h i l r ≡ true) where
+    lows : (lowFits (h .0) l i ≡ true) × (lowFits (h .1) r i ≡ true)
+    lows = both-true (lowFits (h .0) l i) (lowFits (h .1) r i) e
+
+    -- Each operand is a node of the table, as its user is.
+    module _ (u : i < count t) where
+      pub left-in : cond (h .0 .operand) l 0 < count t
+      left-in = named-in (h .0 .operand) (h .0 .limit) l i (count t) (ltb-true _ _ (lows .0)) u
+
+      pub right-in : cond (h .1 .operand) r 0 < count t
+      right-in = named-in (h .1 .operand) (h .1 .limit) r i (count t) (ltb-true _ _ (lows .1)) u
+
+    pub low-sorts : sortFits (h .0) (ltb (kindAt t l) m) && sortFits (h .1) (ltb (kindAt t r) m) ≡ BothFit
+    low-sorts = rw (lows .0, lows .1)
+
+    -- Without Booleans there is nothing more to test.
+    pub low-plain : m ≡ 0 → asksBoolean h ≡ false → true ≡ BothFit
+    low-plain z d =
+        let f = either-false (h .0 .operand && h .0 .boolean) (h .1 .operand && h .1 .boolean) d in
+        rw (
+          ← low-sorts,
+          z,
+          le-ltb (kindAt t l) 0 (omega arith),
+          le-ltb (kindAt t r) 0 (omega arith),
+          plain-sort (h .0 .operand) (h .0 .boolean) (f .0),
+          plain-sort (h .1 .operand) (h .1 .boolean) (f .1),
+        )
 
 -- ── A node ──
 
@@ -161,6 +245,20 @@ module _ (R : Rules) (k : ℕ) (e : known R k ≡ true) where
 
   pub known-low : k < mostKinds
   known-low = ltb-true k mostKinds (both-true (ltb k (R .kinds)) (ltb k mostKinds) e .1)
+
+module _ {R : Rules} (w : WellMade R) (k : ℕ) (h : k < mostKinds) where
+  pub left-masked : masked (shapeOf R k .0) ≡ true
+  left-masked = both-true (masked (shapeOf R k .0)) (masked (shapeOf R k .1)) (w .masks k h) .0
+
+  pub right-masked : masked (shapeOf R k .1) ≡ true
+  right-masked = both-true (masked (shapeOf R k .0)) (masked (shapeOf R k .1)) (w .masks k h) .1
+
+-- The loop tests only that a kind is below the number of kinds.
+pub kind-known : {R : Rules} (w : WellMade R) (k : ℕ) → k < R .kinds → known R k ≡ true
+kind-known {R} w k h = rw (lt-ltb k (R .kinds) h, lt-ltb k mostKinds (omega (arith, w .kinds)))
+
+pub kind-unknown : (R : Rules) (k : ℕ) → R .kinds ≤ k → known R k ≡ false
+kind-unknown R k h = rw (le-ltb k (R .kinds) h)
 
 module _ (R : Rules) (t : List ℕ) (i : ℕ) where
   pub node-none : Sound R t i → refusalAt R t i ≡ none

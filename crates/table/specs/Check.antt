@@ -1,8 +1,9 @@
 -- What both checks share: the first refusal that applies to a table, by its rules.
+use mathlib.Core.Path.{_≡_}
 use mathlib.Core.Bool.{Bool, true, false, not, cond, _&&_, _||_, Bool·beq}
 use mathlib.Core.Option.{Option, none, some}
 use mathlib.Core.List.{List}
-use Prim.Native.Nat.{ℕ, zero, suc, _+_, _*_, _/_, _%_}
+use Prim.Native.Nat.{ℕ, zero, suc, _+_, _*_, _/_, _%_, _≤_, _<_}
 use lib.Dec.{eqb, ltb, leb}
 use lib.ListN.{length, getD}
 use Rattle.trace.specs.Letter.{signals}
@@ -16,12 +17,12 @@ use Rattle.table.specs.Answer.{refused}
 
 -- ── What a place holds ──
 
--- A number below a limit, or the number of an operand, Boolean or not.
+-- A number below a limit, or the number of an operand, Boolean or not. The mask, all zeros or all ones, tells the code which of the two.
 abbrev pub below : ℕ → Place
-below m = record { operand = false; boolean = false; limit = m }
+below m = record { operand = false; boolean = false; mask = 0; limit = m }
 
 abbrev pub operand : Bool → Place
-operand b = record { operand = true; boolean = b; limit = 0 }
+operand b = record { operand = true; boolean = b; mask = 65535; limit = 0 }
 
 abbrev pub unused : Place
 unused = below 1
@@ -61,15 +62,14 @@ operandFits p n i = not (p .operand) || ltb n i
 abbrev pub sortFits : Place → Bool → Bool
 sortFits p b = not (p .operand) || Bool·beq b (p .boolean)
 
--- All four at once: an unused place and a signal are below their limit.
+-- The first three at once: an unused place and a signal are below their limit. Then all four.
+abbrev pub lowFits : Place → ℕ → ℕ → Bool
+lowFits p n i = ltb n (cond (p .operand) i (p .limit))
+
 abbrev pub allFit : Place → ℕ → ℕ → Bool → Bool
-allFit p n i b = ltb n (cond (p .operand) i (p .limit)) && sortFits p b
+allFit p n i b = lowFits p n i && sortFits p b
 
--- ── The refusals ──
-
--- The length n of a table: in threes, of one node or more, and not above the most.
-abbrev pub lengthFits : ℕ → ℕ → Bool
-lengthFits most n = (eqb (n % 3) 0 && ltb 0 (n / 3)) && leb (n / 3) most
+-- ── Rules ──
 
 -- How many kinds any table can have.
 abbrev pub mostKinds : ℕ
@@ -82,6 +82,26 @@ known R k = ltb k (R .kinds) && ltb k mostKinds
 -- The shape of a kind; where there is none, nothing fits.
 abbrev pub shapeOf : Rules → ℕ → Shape
 shapeOf R k = getD (R .shapes) k (places (below 0) (below 0))
+
+-- The mask of a place is right, and an operand has no limit.
+abbrev pub masked : Place → Bool
+masked p = cond (p .operand) (eqb (p .mask) 65535 && eqb (p .limit) 0) (eqb (p .mask) 0)
+
+-- A place of the shape asks for a Boolean.
+abbrev pub asksBoolean : Shape → Bool
+asksBoolean h = (h .0 .operand && h .0 .boolean) || (h .1 .operand && h .1 .boolean)
+
+-- Rules that a check can use: every kind has a shape, its masks are right, and a Boolean is asked for only where some kinds are Booleans.
+pub record WellMade (R : Rules) : Type 0 where
+  pub kinds : R .kinds ≤ mostKinds
+  pub masks : (k : ℕ) → k < mostKinds → masked (shapeOf R k .0) && masked (shapeOf R k .1) ≡ true
+  pub sorts : R .booleans ≡ 0 → (k : ℕ) → k < mostKinds → asksBoolean (shapeOf R k) ≡ false
+
+-- ── The refusals ──
+
+-- The length n of a table: in threes, of one node or more, and not above the most.
+abbrev pub lengthFits : ℕ → ℕ → Bool
+lengthFits most n = (eqb (n % 3) 0 && ltb 0 (n / 3)) && leb (n / 3) most
 
 -- The refusal x unless a test is passed, then o.
 abbrev pub unless : Bool → Refusal → Option Refusal → Option Refusal

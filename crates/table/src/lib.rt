@@ -1,14 +1,14 @@
 // Tables of triples: what PSL and LTL tables share.
 use trace::Refusal;
 ghost use mathlib.Core.Path.{_≡_};
-ghost use mathlib.Core.Bool.{cond, _&&_};
+ghost use mathlib.Core.Bool.{true, false, cond, _&&_};
 ghost use mathlib.Core.Option.{Option, none};
 ghost use Prim.Native.Nat.{_<_, _≤_};
 ghost use lib.Dec.{ltb};
 ghost use Rattle.trace.specs.declared.Refusal.{Refusal};
 ghost use Rattle.table.specs.Node.{node, count, kindAt};
 ghost use Rattle.table.specs.Answer.{refused, checked};
-ghost use Rattle.table.specs.Check.{lengthFits, unusedFits, signalFits, operandFits, sortFits, allFit, unless, placesRefusal, nodeRefusal, refusalAt, lowest, tableRefusal};
+ghost use Rattle.table.specs.Check.{lengthFits, unusedFits, signalFits, operandFits, sortFits, allFit, masked, asksBoolean, WellMade, unless, placesRefusal, nodeRefusal, refusalAt, lowest, tableRefusal};
 
 // The number of a node, counted from 0 along a table: never a point of time.
 pub struct NodeNo(pub u16);
@@ -19,35 +19,43 @@ pub const SIGNALS: u16 = 32;
 // How many kinds a table can have.
 pub const KINDS: u16 = 11;
 
+// The mask of a place that holds an operand.
+pub const ONES: u16 = 65535;
+
 // What a place of a node holds: the number of an operand, Boolean or not, or else a number below the limit. Data and not an enum, so that
-// the test of a node takes no branch on its kind.
+// the test of a node takes no branch on its kind; the mask, all ones for an operand, is there for the same reason.
 pub struct Place {
     pub operand: bool,
     pub boolean: bool,
+    pub mask: u16,
     pub limit: u16,
 }
 
 pub const UNUSED: Place = Place {
     operand: false,
     boolean: false,
+    mask: 0,
     limit: 1,
 };
 
 pub const SIGNAL: Place = Place {
     operand: false,
     boolean: false,
+    mask: 0,
     limit: SIGNALS,
 };
 
 pub const BOOLEAN: Place = Place {
     operand: true,
     boolean: true,
+    mask: ONES,
     limit: 0,
 };
 
 pub const FORMULA: Place = Place {
     operand: true,
     boolean: false,
+    mask: ONES,
     limit: 0,
 };
 
@@ -114,9 +122,10 @@ fn sort_fits(p: Place, b: bool) -> bool
 
 // What a place of node i holds is below this.
 fn bound(p: Place, i: u16) -> u16
+    requires { ⌜ masked p ≡ true ⌝ }
     ensures { λ r. ⌜ r ≡ cond (p .operand) i (p .limit) ⌝ }
 {
-    if p.operand { i } else { p.limit }
+    (i & p.mask) | p.limit
 }
 
 // The kind of a node, 0 past the last.
@@ -127,28 +136,38 @@ fn kind_at(t: &[u16], n: u16) -> u16
     if at < t.len() { t[at] } else { 0 }
 }
 
-// All four tests at once, and for both places. A kind is read only where an operand can be of the wrong sort; without Booleans there is no branch.
-fn place_fits(p: Place, n: u16, i: u16, t: &[u16], booleans: u16) -> bool
-    ensures { λ r. ⌜ r ≡ allFit p n i (ltb (kindAt (now (t .entry)) n) booleans) ⌝ }
+// The node whose kind is read for a place: where the place has no operand, any will do.
+fn named(p: Place, n: u16) -> u16
+    requires { ⌜ masked p ≡ true ⌝ }
+    ensures { λ r. ⌜ r ≡ cond (p .operand) n 0 ⌝ }
 {
-    if booleans == 0 {
-        return (n < bound(p, i)) & sort_fits(p, false);
-    }
-    if !p.operand {
-        return n < p.limit;
-    }
-    if i <= n {
-        return false;
-    }
-    (kind_at(t, n) < booleans) == p.boolean
+    n & p.mask
 }
 
+// What place p names is of its sort.
+fn named_fits(p: Place, n: u16, t: &[u16], booleans: u16) -> bool
+    requires { ⌜ (masked p ≡ true) × (cond (p .operand) n 0 < count (now t)) ⌝ }
+    ensures { λ r. ⌜ r ≡ sortFits p (ltb (kindAt (now (t .entry)) n) booleans) ⌝ }
+{
+    let m = named(p, n) as usize;
+    sort_fits(p, t[3 * m] < booleans)
+}
+
+// All four tests at once, and for both places, without a branch on what a place holds: first that it is low enough, then, where there are
+// Booleans, its sort.
 fn places_fit(h: Shape, i: u16, l: u16, r: u16, t: &[u16], booleans: u16) -> bool
+    requires { ⌜ (i < count (now t)) × (masked (h .0) ≡ true) × (masked (h .1) ≡ true) × (booleans ≡ 0 → asksBoolean h ≡ false) ⌝ }
     ensures { λ x. ⌜ x ≡ (allFit (h .0) l i (ltb (kindAt (now (t .entry)) l) booleans) && allFit (h .1) r i (ltb (kindAt (now (t .entry)) r) booleans)) ⌝ }
 {
     let p = h.0;
     let q = h.1;
-    place_fits(p, l, i, t, booleans) & place_fits(q, r, i, t, booleans)
+    if !((l < bound(p, i)) & (r < bound(q, i))) {
+        return false;
+    }
+    if booleans == 0 {
+        return true;
+    }
+    named_fits(p, l, t, booleans) & named_fits(q, r, t, booleans)
 }
 
 // The refusal of that number unless a test was passed, then what the later tests answer.
@@ -202,7 +221,7 @@ pub fn check_node(rules: Rules, i: NodeNo, k: u16, l: u16, r: u16, lb: bool, rb:
 
 // The lowest node that is refused, or how many nodes there are.
 fn first_refused(rules: Rules, t: &[u16]) -> usize
-    requires { ⌜ count (now t) < 65536 ⌝ }
+    requires { ⌜ (count (now t) < 65536) × WellMade rules ⌝ }
     ensures { λ i. ⌜ (lowest (refusalAt rules (now (t .entry))) i ≡ none)
         × (i ≤ count (now (t .entry)))
         × (i < count (now (t .entry)) → refusalAt rules (now (t .entry)) i ≡ none → ⊥) ⌝ }
@@ -213,7 +232,7 @@ fn first_refused(rules: Rules, t: &[u16]) -> usize
         let k = t[3 * i];
         let l = t[3 * i + 1];
         let r = t[3 * i + 2];
-        if !((k < rules.kinds) & (k < KINDS)) {
+        if rules.kinds <= k {
             return i;
         }
         let at = k as usize;
@@ -228,6 +247,7 @@ fn first_refused(rules: Rules, t: &[u16]) -> usize
 
 // The check that both tables share.
 pub fn check_table(rules: Rules, t: &[u16]) -> Checked
+    requires { ⌜ WellMade rules ⌝ }
     ensures { λ x. ⌜ x ≡ checked (tableRefusal rules (now (t .entry))) ⌝ }
 {
     if !length_fits(rules.most, t.len()) {

@@ -5,7 +5,7 @@ use Rattle.table.specs.Answer.{checked}
 use Rattle.table.specs.Check.{tableRefusal}
 use Rattle.table.proofs.CheckLaw.{accepted, was-refused}
 use Rattle.psl.specs.Check.{pslRules}
-use Rattle.psl.proofs.CheckLaw.{psl-first, psl-then}
+use Rattle.psl.proofs.CheckLaw.{rules-made, psl-first, psl-then}
 use borrow.Author.Needs.{needs}
 use Rattle.psl.proofs.check_psl.Statement.{statement}
 use Rattle.psl.proofs.check_psl.Tie as tie
@@ -15,7 +15,7 @@ fine : (c : tie.After-enum-told) → tableRefusal pslRules (c .before .before .b
 fine c = accepted _ _ (c .before .before .check-table .ensures) (c .enum-told .given .1)
 
 check-table-requires : tie.Need-check-table-requires
-check-table-requires c κs = search needs
+check-table-requires c κs = rules-made
 
 enum-told : tie.Need-enum-told
 enum-told c = search needs

@@ -6,7 +6,7 @@ use native.Mathlib.Omega.{arith}
 use lib.ListN.{length}
 use Rattle.table.specs.Node.{count}
 use Rattle.psl.specs.Counts.{Tallied}
-use Rattle.psl.proofs.CheckLaw.{kind-low, left-room, right-room, tallied-next}
+use Rattle.psl.proofs.CheckLaw.{kind-low, few, left-room, right-room, tallied-next}
 use Rattle.psl.proofs.count_uses.Statement.{statement}
 use Rattle.psl.proofs.count_uses.Tie as tie
 
@@ -59,6 +59,9 @@ mul-count-place-2 c = search needs
 shared-slice-read-count-place : tie.Need-shared-slice-read-count-place Inv-loop μ-loop
 shared-slice-read-count-place c = search needs
 
+cast-count-place : tie.Need-cast-count-place Inv-loop μ-loop
+cast-count-place c = let u = c .before .before .before .before .before in omega (arith, few (tally u) (inside u))
+
 count-place-requires : tie.Need-count-place-requires Inv-loop μ-loop
 count-place-requires c κs = let u = turn c in left-room (tally u) (inside u)
 
@@ -73,6 +76,9 @@ mul-count-place-4 c = search needs
 
 shared-slice-read-count-place-2 : tie.Need-shared-slice-read-count-place-2 Inv-loop μ-loop
 shared-slice-read-count-place-2 c = search needs
+
+cast-count-place-2 : tie.Need-cast-count-place-2 Inv-loop μ-loop
+cast-count-place-2 c = let u = turn (c .before .before .before .before) in omega (arith, few (tally u) (inside u))
 
 count-place-requires-2 : tie.Need-count-place-requires-2 Inv-loop μ-loop
 count-place-requires-2 c κs = let l = c .before .before .before .before in let u = turn (l .before) in right-room (tally u) (inside u) _ (l .count-place .ensures)
@@ -119,11 +125,13 @@ count-uses-spec =
     add-count-place
     mul-count-place-2
     shared-slice-read-count-place
+    cast-count-place
     count-place-requires
     mul-count-place-3
     add-count-place-2
     mul-count-place-4
     shared-slice-read-count-place-2
+    cast-count-place-2
     count-place-requires-2
     add-i
     loop-less

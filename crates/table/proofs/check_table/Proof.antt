@@ -26,8 +26,8 @@ returns c =
 
 first-refused-requires : tie.Need-first-refused-requires
 first-refused-requires c κs =
-    let a = c .before .before .before .args in
-    omega (arith, sized (a .rules) (a .t .now) (right-length c) .low, c .before .length-fits .ensures .1)
+    let st = c .before .before .before in
+    (omega (arith, sized (st .args .rules) (st .args .t .now) (right-length c) .low, c .before .length-fits .ensures .1), st .pre)
 
 returns-2 : tie.Need-returns-2
 returns-2 c =

@@ -7,7 +7,7 @@ use mathlib.Core.Option.{none}
 use native.Mathlib.Omega.{arith}
 use Rattle.table.specs.Node.{count, kindAt}
 use Rattle.table.specs.Check.{mostKinds, refusalAt, lowest}
-use Rattle.table.proofs.CheckLaw.{known-low, fast-none, fast-some, unknown-some, lowest-zero, lowest-next}
+use Rattle.table.proofs.CheckLaw.{left-masked, right-masked, kind-known, kind-unknown, fast-none, fast-some, unknown-some, lowest-zero, lowest-next}
 use Rattle.table.proofs.first_refused.Statement.{statement}
 use Rattle.table.proofs.first_refused.Tie as tie
 
@@ -19,7 +19,7 @@ abbrev μ-loop : tie.MeasureT-loop
 
 -- The kind of the node that was read is one of the table's.
 low-kind : (u : tie.Else1 Inv-loop μ-loop) → let lp = u .before .before .before .before .before in kindAt (lp .before .before .args .t .now) (lp .loop .i) < mostKinds
-low-kind u = let lp = u .before .before .before .before .before in known-low (lp .before .before .args .t1) _ (not-false _ (u .if1 .left))
+low-kind u = omega (arith, u .before .before .before .before .before .before .before .pre .1 .kinds)
 
 loop-holds : tie.Need-loop-holds Inv-loop μ-loop
 loop-holds c = (omega arith, lowest-zero _)
@@ -61,7 +61,7 @@ returns : tie.Need-returns Inv-loop μ-loop
 returns c =
     let lp = c .before .before .before .before .before in
     let a = lp .before .before .args in
-    (lp .loop .inv .1, lp .loop .inv .0, λ _. unknown-some (a .t1) (a .t .now) (lp .loop .i) (not-true _ (c .if1 .taken)))
+    (lp .loop .inv .1, lp .loop .inv .0, λ _. unknown-some (a .t1) (a .t .now) (lp .loop .i) (kind-unknown (a .t1) _ (c .if1 .taken)))
 
 cast-at : tie.Need-cast-at Inv-loop μ-loop
 cast-at c = omega (arith, low-kind c)
@@ -76,7 +76,10 @@ cast-places-fit : tie.Need-cast-places-fit Inv-loop μ-loop
 cast-places-fit c = search needs
 
 places-fit-requires : tie.Need-places-fit-requires Inv-loop μ-loop
-places-fit-requires c κs = search needs
+places-fit-requires c κs =
+    let u = c .before in
+    let W = u .before .before .before .before .before .before .before .pre .1 in
+    (omega arith, left-masked W _ (low-kind u), right-masked W _ (low-kind u), λ z. W .sorts z _ (low-kind u))
 
 returns-2 : tie.Need-returns-2 Inv-loop μ-loop
 returns-2 c =
@@ -99,7 +102,7 @@ loop-again c =
     let a = lp .before .before .args in (
       omega arith,
       lowest-next (refusalAt (a .t1) (a .t .now)) (lp .loop .i) (lp .loop .inv .1)
-          (fast-none (a .t1) (a .t .now) (lp .loop .i) (not-false _ (u .if1 .left)) (sym (p .places-fit .ensures) ∙ not-false _ (c .if2 .left))),
+          (fast-none (a .t1) (a .t .now) (lp .loop .i) (kind-known (lp .before .before .pre .1) _ (u .if1 .left)) (sym (p .places-fit .ensures) ∙ not-false _ (c .if2 .left))),
     )
 
 returns-3 : tie.Need-returns-3 Inv-loop μ-loop

@@ -1,0 +1,10 @@
+-- `bound` picks by the mask: i where there is an operand, which has no limit.
+use Rattle.table.proofs.CheckLaw.{bound-is}
+use Rattle.table.proofs.bound.Statement.{statement}
+use Rattle.table.proofs.bound.Tie as tie
+
+returns : tie.Need-returns
+returns c = let st = c .before .before in bound-is (st .args .p) (st .pre) (st .args .i) (st .fits .i .fits)
+
+pub bound-spec : {M : Type 1} → statement M
+bound-spec = tie.close (tie.spec returns)
