@@ -1,2 +1,3 @@
 pub mod KnownLaw
+pub mod CheckLaw
 pub mod AcceptedLaw

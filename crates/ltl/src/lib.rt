@@ -7,9 +7,13 @@ use table::SIGNAL;
 use table::SPARE;
 use table::Shape;
 use table::UNUSED;
+use trace::Refusal;
 ghost use mathlib.Core.Path.{_≡_};
 ghost use Rattle.table.specs.Answer.{checked};
-ghost use Rattle.ltl.specs.Check.{ltlRefusal};
+ghost use Prim.Native.Nat.{_<_};
+ghost use Rattle.table.specs.Node.{count};
+ghost use Rattle.table.specs.Check.{FirstRefused};
+ghost use Rattle.ltl.specs.Check.{ltlRules, ltlRefusal};
 
 // What stands left and right, kind by kind. All are formulas, so no operand is of the wrong sort, and that refusal has no number.
 pub const LTL: Rules = Rules {
@@ -39,9 +43,41 @@ pub const LTL: Rules = Rules {
     },
 };
 
+// The lowest node that is refused, or how many nodes there are. Sorts need no test.
+fn first_refused(t: &[u16]) -> usize
+    requires { ⌜ count (now t) < 65536 ⌝ }
+    ensures { λ i. ⌜ FirstRefused ltlRules (now (t .entry)) i ⌝ }
+{
+    let rules = LTL;
+    let n = t.len() / 3;
+    let mut i: usize = 0;
+    while i < n {
+        let k = t[3 * i];
+        let l = t[3 * i + 1];
+        let r = t[3 * i + 2];
+        if rules.kinds <= k {
+            return i;
+        }
+        let at = k as usize;
+        let h = rules.shapes[at];
+        if !table::places_low(h, i as u16, l, r) {
+            return i;
+        }
+        i += 1;
+    }
+    n
+}
+
 // Refusals 11 to 15.
 pub fn check_ltl(t: &[u16]) -> Checked
     ensures { λ r. ⌜ r ≡ checked (ltlRefusal (now (t .entry))) ⌝ }
 {
-    table::check_table(LTL, t)
+    if !table::length_fits(LTL.most, t.len()) {
+        return Checked::Refused(Refusal(11));
+    }
+    let i = first_refused(t);
+    if t.len() / 3 <= i {
+        return Checked::Accepted;
+    }
+    table::refused_at(LTL, t, i)
 }

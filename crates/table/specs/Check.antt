@@ -145,6 +145,12 @@ tableRefusal R t =
     unless (lengthFits (R .most) (length t)) (refused (R .numbers .length))
     (lowest (refusalAt R t) (count t))
 
+-- Node i is the lowest that is refused, or i is how many nodes there are, and none is.
+pub record FirstRefused (R : Rules) (t : List ℕ) (i : ℕ) : Type 0 where
+  pub passed : lowest (refusalAt R t) i ≡ none
+  pub within : i ≤ count t
+  pub stopped : i < count t → refusalAt R t i ≡ none → ⊥
+
 -- ── Sums ──
 
 -- The sum over the numbers below n.

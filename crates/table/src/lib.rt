@@ -2,13 +2,14 @@
 use trace::Refusal;
 ghost use mathlib.Core.Path.{_≡_};
 ghost use mathlib.Core.Bool.{true, false, cond, _&&_};
-ghost use mathlib.Core.Option.{Option, none};
+ghost use mathlib.Core.Option.{Option};
 ghost use Prim.Native.Nat.{_<_, _≤_};
 ghost use lib.Dec.{ltb};
+ghost use lib.ListN.{length};
 ghost use Rattle.trace.specs.declared.Refusal.{Refusal};
 ghost use Rattle.table.specs.Node.{node, count, kindAt};
 ghost use Rattle.table.specs.Answer.{refused, checked};
-ghost use Rattle.table.specs.Check.{lengthFits, unusedFits, signalFits, operandFits, sortFits, allFit, masked, asksBoolean, WellMade, unless, placesRefusal, nodeRefusal, refusalAt, lowest, tableRefusal};
+ghost use Rattle.table.specs.Check.{lengthFits, unusedFits, signalFits, operandFits, sortFits, lowFits, allFit, masked, asksBoolean, WellMade, unless, placesRefusal, nodeRefusal, tableRefusal, FirstRefused};
 
 // The number of a node, counted from 0 along a table: never a point of time.
 pub struct NodeNo(pub u16);
@@ -90,7 +91,7 @@ pub enum Checked {
 }
 
 // A table of n numbers has as many nodes as are allowed. (The range of `most` is for the caller, who has it from a struct.)
-fn length_fits(most: u16, n: usize) -> bool
+pub fn length_fits(most: u16, n: usize) -> bool
     ensures { λ r. ⌜ (r ≡ lengthFits most n) × (most < 65536) ⌝ }
 {
     (n % 3 == 0) & (0 < n / 3) & (n / 3 <= most as usize)
@@ -151,6 +152,16 @@ fn named_fits(p: Place, n: u16, t: &[u16], booleans: u16) -> bool
 {
     let m = named(p, n) as usize;
     sort_fits(p, t[3 * m] < booleans)
+}
+
+// Both places of node i are low enough. There is no branch on what they hold.
+pub fn places_low(h: Shape, i: u16, l: u16, r: u16) -> bool
+    requires { ⌜ (masked (h .0) ≡ true) × (masked (h .1) ≡ true) ⌝ }
+    ensures { λ x. ⌜ x ≡ (lowFits (h .0) l i && lowFits (h .1) r i) ⌝ }
+{
+    let p = h.0;
+    let q = h.1;
+    (l < bound(p, i)) & (r < bound(q, i))
 }
 
 // All four tests at once, and for both places, without a branch on what a place holds: first that it is low enough, then, where there are
@@ -222,9 +233,7 @@ pub fn check_node(rules: Rules, i: NodeNo, k: u16, l: u16, r: u16, lb: bool, rb:
 // The lowest node that is refused, or how many nodes there are.
 fn first_refused(rules: Rules, t: &[u16]) -> usize
     requires { ⌜ (count (now t) < 65536) × WellMade rules ⌝ }
-    ensures { λ i. ⌜ (lowest (refusalAt rules (now (t .entry))) i ≡ none)
-        × (i ≤ count (now (t .entry)))
-        × (i < count (now (t .entry)) → refusalAt rules (now (t .entry)) i ≡ none → ⊥) ⌝ }
+    ensures { λ i. ⌜ FirstRefused rules (now (t .entry)) i ⌝ }
 {
     let n = t.len() / 3;
     let mut i: usize = 0;
@@ -245,6 +254,18 @@ fn first_refused(rules: Rules, t: &[u16]) -> usize
     n
 }
 
+// The answer for a table of the right length, by its lowest node that is refused.
+pub fn refused_at(rules: Rules, t: &[u16], i: usize) -> Checked
+    requires { ⌜ (lengthFits (rules .most) (length (now t)) ≡ true) × (i < count (now t)) × (i < 65536) × FirstRefused rules (now t) i ⌝ }
+    ensures { λ x. ⌜ x ≡ checked (tableRefusal rules (now (t .entry))) ⌝ }
+{
+    let l = t[3 * i + 1];
+    let r = t[3 * i + 2];
+    let lb = kind_at(t, l) < rules.booleans;
+    let rb = kind_at(t, r) < rules.booleans;
+    check_node(rules, NodeNo(i as u16), t[3 * i], l, r, lb, rb)
+}
+
 // The check that both tables share.
 pub fn check_table(rules: Rules, t: &[u16]) -> Checked
     requires { ⌜ WellMade rules ⌝ }
@@ -258,9 +279,5 @@ pub fn check_table(rules: Rules, t: &[u16]) -> Checked
     if t.len() / 3 <= i {
         return Checked::Accepted;
     }
-    let l = t[3 * i + 1];
-    let r = t[3 * i + 2];
-    let lb = kind_at(t, l) < rules.booleans;
-    let rb = kind_at(t, r) < rules.booleans;
-    check_node(rules, NodeNo(i as u16), t[3 * i], l, r, lb, rb)
+    refused_at(rules, t, i)
 }

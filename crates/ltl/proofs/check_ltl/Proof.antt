@@ -1,28 +1,67 @@
--- `check_ltl` is the shared check by the LTL rules, which are well made: no place asks for a Boolean.
+-- `check_ltl` answers for the length, then for the lowest node that is refused.
 use borrow.Author.Needs.{needs}
-use mathlib.Core.Bool.{not, _&&_}
-use mathlib.Core.Path.{refl}
+use mathlib.Core.Path.{_≡_, sym, ap, _∙_}
+use mathlib.Core.Bool.{true}
+use lib.ListN.{length}
 use native.Mathlib.Omega.{arith}
-use borrow.Author.Tests.{not-true}
-use Rattle.table.specs.Check.{shapeOf, masked, asksBoolean, WellMade}
-use Rattle.table.proofs.KindLaw.{every}
+use borrow.Author.Tests.{not-true, not-false}
+use Rattle.table.specs.Check.{lengthFits}
+use Rattle.table.specs.Answer.{checked}
+use Rattle.table.proofs.CheckLaw.{sized, refused-length, refused-none}
 use Rattle.ltl.specs.Check.{ltlRules}
 use Rattle.ltl.proofs.check_ltl.Statement.{statement}
 use Rattle.ltl.proofs.check_ltl.Tie as tie
+use Rattle.ltl.proofs.check_ltl.Reads as reads
+use Rattle.ltl.proofs.check_ltl.Lts as lts
+use Rattle.ltl.proofs.first_refused.Reads as first-refused-reads
+use Rattle.table.proofs.length_fits.Reads as length-fits-reads
+use Rattle.table.proofs.refused_at.Reads as refused-at-reads
 
-well-made : WellMade ltlRules
-well-made =
-    record {
-      kinds = omega arith;
-      masks = every (λ j. masked (shapeOf ltlRules j .0) && masked (shapeOf ltlRules j .1)) 11 refl;
-      sorts = λ z k h. not-true _ (every (λ j. not (asksBoolean (shapeOf ltlRules j))) 11 refl k h);
-    }
+-- Past the test of the length.
+right-length : (e : tie.Else1) → let a = e .before .before .before .args in lengthFits (ltlRules .most) (length (a .t .now)) ≡ true
+right-length e = sym (e .before .length-fits .ensures .0) ∙ not-false _ (e .if1 .left)
 
-check-table-requires : tie.Need-check-table-requires
-check-table-requires c κs = well-made
+-- src/lib.rt:75:9
+length-fits-requires : tie.Need-length-fits-requires
+length-fits-requires c κs = search needs
 
+-- src/lib.rt:76:9
 returns : tie.Need-returns
-returns c = search needs
+returns c =
+    let f = c .before in
+    let a = f .before .before .args in
+    sym (ap checked (refused-length ltlRules (a .t .now) (sym (f .length-fits .ensures .0) ∙ not-true (f .length-fits .result) (c .if1 .taken))))
+
+-- src/lib.rt:78:9
+first-refused-requires : tie.Need-first-refused-requires
+first-refused-requires c κs = omega (arith, sized ltlRules (c .before .before .before .args .t .now) (right-length c) .low)
+
+-- src/lib.rt:80:9
+returns-2 : tie.Need-returns-2
+returns-2 c =
+    let f = c .before in
+    let e = f .before in
+    let F = f .first-refused .ensures in
+    sym (ap checked (refused-none ltlRules (e .before .before .before .args .t .now) (right-length e) (f .first-refused .result) (omega (arith, F .within)) (F .passed)))
+
+-- src/lib.rt:82:5
+refused-at-requires : tie.Need-refused-at-requires
+refused-at-requires c κs =
+    let f = c .before in
+    let e = f .before in
+    (right-length e, omega arith, omega (arith, sized ltlRules (e .before .before .before .args .t .now) (right-length e) .low), f .first-refused .ensures)
+
+-- src/lib.rt:72:1
+returns-3 : tie.Need-returns-3
+returns-3 c = search needs
 
 pub check-ltl-spec : {M : Type 1} → statement M
-check-ltl-spec = tie.close (tie.spec check-table-requires returns)
+check-ltl-spec =
+    tie.close
+    (tie.spec
+    length-fits-requires
+    returns
+    first-refused-requires
+    returns-2
+    refused-at-requires
+    returns-3)

@@ -61,7 +61,7 @@ returns : tie.Need-returns Inv-loop μ-loop
 returns c =
     let lp = c .before .before .before .before .before in
     let a = lp .before .before .args in
-    (lp .loop .inv .1, lp .loop .inv .0, λ _. unknown-some (a .t1) (a .t .now) (lp .loop .i) (kind-unknown (a .t1) _ (c .if1 .taken)))
+    record { passed = lp .loop .inv .1; within = lp .loop .inv .0; stopped = λ _. unknown-some (a .t1) (a .t .now) (lp .loop .i) (kind-unknown (a .t1) _ (c .if1 .taken)) }
 
 cast-at : tie.Need-cast-at Inv-loop μ-loop
 cast-at c = omega (arith, low-kind c)
@@ -86,7 +86,7 @@ returns-2 c =
     let p = c .before in
     let lp = p .before .before .before .before .before .before .before in
     let a = lp .before .before .args in
-    (lp .loop .inv .1, lp .loop .inv .0, λ _. fast-some (a .t1) (a .t .now) (lp .loop .i) (sym (p .places-fit .ensures) ∙ not-true _ (c .if2 .taken)))
+    record { passed = lp .loop .inv .1; within = lp .loop .inv .0; stopped = λ _. fast-some (a .t1) (a .t .now) (lp .loop .i) (sym (p .places-fit .ensures) ∙ not-true _ (c .if2 .taken)) }
 
 add-i : tie.Need-add-i Inv-loop μ-loop
 add-i c = search needs
@@ -110,7 +110,7 @@ returns-3 c =
     let lp = c .before in
     let a = lp .before .before .args in
     let e : lp .loop .i ≡ count (a .t .now) = omega arith in
-    (subst (λ (m : ℕ). lowest (refusalAt (a .t1) (a .t .now)) m ≡ none) e (lp .loop .inv .1), omega arith, λ h. absurd (omega arith))
+    record { passed = subst (λ (m : ℕ). lowest (refusalAt (a .t1) (a .t .now)) m ≡ none) e (lp .loop .inv .1); within = omega arith; stopped = λ h. absurd (omega arith) }
 
 pub first-refused-spec : {M : Type 1} → statement M
 first-refused-spec =
