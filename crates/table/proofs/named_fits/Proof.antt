@@ -1,6 +1,5 @@
 -- `named_fits` reads the kind of the operand, or that of node 0, which does not matter.
 use borrow.Author.Needs.{needs}
-use mathlib.Core.Path.{_∙_}
 use Rattle.table.proofs.CheckLaw.{named-sort}
 use Rattle.table.proofs.named_fits.Statement.{statement}
 use Rattle.table.proofs.named_fits.Tie as tie

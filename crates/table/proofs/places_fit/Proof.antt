@@ -1,5 +1,4 @@
 -- `places_fit` tests that both places are low enough, then their sorts where there are Booleans.
-use borrow.Author.Needs.{needs}
 use mathlib.Core.Path.{_≡_}
 use mathlib.Core.Bool.{true}
 use native.Mathlib.Omega.{arith}
