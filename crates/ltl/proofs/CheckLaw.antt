@@ -7,9 +7,9 @@ use Prim.Native.Nat.{ℕ, _<_}
 use native.Mathlib.Omega.{arith}
 use borrow.Author.Tests.{not-true}
 use Rattle.table.specs.Node.{kindAt, leftAt, rightAt}
-use Rattle.table.specs.Check.{shapeOf, masked, asksBoolean, WellMade, refusalAt}
+use Rattle.table.specs.Check.{shapeOf, masked, refusalAt}
 use Rattle.table.proofs.KindLaw.{every}
-use Rattle.table.proofs.CheckLaw.{BothLow, not-low, low-plain, kind-known, fast-none, fast-some}
+use Rattle.table.proofs.CheckLaw.{WellMade, asksBoolean, BothLow, not-low, low-plain, kind-known, fast-none, fast-some}
 use Rattle.ltl.specs.Check.{ltlRules}
 
 pub rules-made : WellMade ltlRules
@@ -17,8 +17,10 @@ rules-made =
     record {
       kinds = omega arith;
       masks = every (λ j. masked (shapeOf ltlRules j .0) && masked (shapeOf ltlRules j .1)) 11 refl;
-      sorts = λ z k h. not-true _ (every (λ j. not (asksBoolean (shapeOf ltlRules j))) 11 refl k h);
     }
+
+plain : (k : ℕ) → k < 11 → asksBoolean (shapeOf ltlRules k) ≡ false
+plain k h = not-true _ (every (λ j. not (asksBoolean (shapeOf ltlRules j))) 11 refl k h)
 
 module _ (t : List ℕ) (i : ℕ) where
   abbrev Low : Bool
@@ -28,7 +30,7 @@ module _ (t : List ℕ) (i : ℕ) where
   low-none h e =
       let k = kindAt t i in
       fast-none ltlRules t i (kind-known rules-made k h)
-      (sym (low-plain (shapeOf ltlRules k) i (leftAt t i) (rightAt t i) t 0 e refl (rules-made .sorts refl k (omega arith))))
+      (sym (low-plain (shapeOf ltlRules k) i (leftAt t i) (rightAt t i) t 0 e refl (plain k (omega arith))))
 
   pub low-some : Low ≡ false → refusalAt ltlRules t i ≡ none → ⊥
   low-some e = fast-some ltlRules t i (sym (not-low (shapeOf ltlRules (kindAt t i)) i (leftAt t i) (rightAt t i) t 0 e))

@@ -1,7 +1,7 @@
 -- Laws of the PSL check: the counts of uses, which refusal decides, and what an accepted table is like.
 use mathlib.Core.Path.{_≡_, refl, sym, ap, _∙_, subst}
 use mathlib.Core.Bool.{Bool, true, false, not, cond, _&&_}
-use mathlib.Core.Option.{none, some}
+use mathlib.Core.Option.{Option, none, some}
 use mathlib.Core.List.{List}
 use Prim.Native.Nat.{ℕ, zero, suc, _+_, _*_, _-_, _≤_, _<_}
 use native.Mathlib.Omega.{arith}
@@ -16,9 +16,9 @@ use Rattle.trace.specs.declared.Refusal.{Refusal}
 use Rattle.table.specs.declared.Place.{Place}
 use Rattle.table.specs.Answer.{refused}
 use Rattle.table.specs.Node.{count, kindAt, leftAt, rightAt}
-use Rattle.table.specs.Check.{shapeOf, masked, WellMade, isBoolean, lowest, tableRefusal, total}
+use Rattle.table.specs.Check.{shapeOf, masked, lengthFits, isBoolean, refusalAt, lowest, tableRefusal, total}
 use Rattle.table.proofs.KindLaw.{every}
-use Rattle.table.proofs.CheckLaw.{unless-none, or-none, named-is, other-is, left-masked, right-masked, Fits, Sound, known-kind, table-sized, table-sound, lowest-some, none-below}
+use Rattle.table.proofs.CheckLaw.{WellMade, unless-none, or-none, named-is, other-is, left-masked, right-masked, Fits, Sound, known-kind, node-none, node-sound, table-sound, sized, lowest-zero, lowest-next, lowest-some, none-below}
 use Rattle.psl.specs.Check.{pslRules, one, names, namesAt, uses, useRefusal, rootRefusal, treeRefusal, pslRefusal}
 use Rattle.psl.specs.Counts.{Counted, Tallied}
 
@@ -52,7 +52,6 @@ rules-made =
     record {
       kinds = omega arith;
       masks = every (λ j. masked (shapeOf pslRules j .0) && masked (shapeOf pslRules j .1)) 11 refl;
-      sorts = λ z k h. absurd (omega arith);
     }
 
 -- Where the place p of node i is counted, if it holds n.
@@ -104,25 +103,26 @@ own-or-below true m n i h = omega arith
 own-or-below false m n i h = omega arith
 
 -- Cleared counts, before the first node.
-pub untallied : (t : List ℕ) (n : ℕ) → tableRefusal pslRules t ≡ none → count t ≤ n → Tallied t 0 (replicate n 0)
+pub untallied : (t : List ℕ) (n : ℕ) → lengthFits (pslRules .most) (length t) ≡ true → count t ≤ n → Tallied t 0 (replicate n 0)
 unfolding total
 untallied t n e h =
     record {
-      table = e;
+      right-length = e;
+      passed = lowest-zero _;
       for-nodes = simp length-replicate h;
       counts = λ j g. getD-replicate n j 0 0 (simp length-replicate at g);
     }
 
 -- What the loop that counts knows at node i, c being the counts.
-module _ {t : List ℕ} {i : ℕ} {c : List ℕ} (T : Tallied t i c) (h : i < count t) where
+module _ {t : List ℕ} {i : ℕ} {c : List ℕ} (T : Tallied t i c) (h : i < count t) (fine : refusalAt pslRules t i ≡ none) where
   sound : Sound pslRules t i
-  sound = table-sound pslRules t (T .table) i h
+  sound = node-sound pslRules t i fine
 
-  pub kind-low : kindAt t i < 11
+  kind-low : kindAt t i < 11
   kind-low = known-kind pslRules (kindAt t i) (sound .kind)
 
-  pub few : i < 1024
-  few = omega (arith, table-sized pslRules t (T .table) .low)
+  few : i < 1024
+  few = omega (arith, sized pslRules t (T .right-length) .low)
 
   abbrev pub left : Place
   left = shapeOf pslRules (kindAt t i) .0
@@ -151,7 +151,8 @@ module _ {t : List ℕ} {i : ℕ} {c : List ℕ} (T : Tallied t i c) (h : i < co
     unfolding total namesAt
     tallied-next e R =
         record {
-          table = T .table;
+          right-length = T .right-length;
+          passed = lowest-next (refusalAt pslRules t) i (T .passed) fine;
           for-nodes = omega (arith, R .same, L .same, T .for-nodes);
           counts = λ j l.
               let m : j < length c = omega (arith, R .same, L .same, l) in
@@ -193,6 +194,14 @@ module _ (t : List ℕ) where
 pub psl-first : (t : List ℕ) (x : Refusal) → tableRefusal pslRules t ≡ some x → pslRefusal t ≡ some x
 unfolding pslRefusal
 psl-first t x e = rw e
+
+-- Where a node is refused, what both tables share decides.
+pub psl-by-node : (t : List ℕ) (i : ℕ) → i < count t → (refusalAt pslRules t i ≡ none → ⊥) → tableRefusal pslRules t ≡ pslRefusal t
+psl-by-node t i h stopped = go (tableRefusal pslRules t) refl
+  where
+    go : (o : Option Refusal) → tableRefusal pslRules t ≡ o → o ≡ pslRefusal t
+    go none e = absurd (stopped (node-none pslRules t i (table-sound pslRules t e i h)))
+    go (some x) e = sym (psl-first t x e)
 
 pub psl-then : (t : List ℕ) → tableRefusal pslRules t ≡ none → pslRefusal t ≡ treeRefusal t
 unfolding pslRefusal

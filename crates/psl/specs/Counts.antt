@@ -1,12 +1,13 @@
 -- The counts that the check keeps.
 use mathlib.Core.Path.{_≡_}
+use mathlib.Core.Bool.{true}
 use mathlib.Core.Option.{none}
 use mathlib.Core.List.{List}
 use Prim.Native.Nat.{ℕ, _+_, _≤_, _<_}
 use lib.ListN.{length, getD}
 use Rattle.table.specs.declared.Place.{Place}
 use Rattle.table.specs.Node.{count}
-use Rattle.table.specs.Check.{tableRefusal, total}
+use Rattle.table.specs.Check.{lengthFits, refusalAt, lowest, total}
 use Rattle.psl.specs.Check.{pslRules, names, namesAt}
 
 -- d is c with the uses by a place that holds n added.
@@ -14,8 +15,9 @@ pub record Counted (p : Place) (n : ℕ) (c d : List ℕ) : Type 0 where
   pub same : length d ≡ length c
   pub more : (j : ℕ) → j < length c → getD d j 0 ≡ getD c j 0 + names p n j
 
--- Of a table that passed the first tests, c holds how often the first i nodes name each node.
+-- Of a table of the right length whose first i nodes are not refused, c holds how often these name each node.
 pub record Tallied (t : List ℕ) (i : ℕ) (c : List ℕ) : Type 0 where
-  pub table : tableRefusal pslRules t ≡ none
+  pub right-length : lengthFits (pslRules .most) (length t) ≡ true
+  pub passed : lowest (refusalAt pslRules t) i ≡ none
   pub for-nodes : count t ≤ length c
   pub counts : (j : ℕ) → j < length c → getD c j 0 ≡ total (namesAt t j) i

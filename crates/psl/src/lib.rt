@@ -13,10 +13,9 @@ ghost use mathlib.Core.Path.{_≡_};
 ghost use mathlib.Core.Bool.{true, cond};
 ghost use Prim.Native.Nat.{_<_};
 ghost use lib.ListN.{length, getD};
-ghost use mathlib.Core.Option.{none};
 ghost use Rattle.table.specs.Answer.{checked};
 ghost use Rattle.table.specs.Node.{count};
-ghost use Rattle.table.specs.Check.{masked, tableRefusal};
+ghost use Rattle.table.specs.Check.{masked, FirstRefused};
 ghost use Rattle.psl.specs.Check.{pslRules, one, treeRefusal, pslRefusal};
 ghost use Rattle.psl.specs.Counts.{Counted, Tallied};
 
@@ -73,31 +72,40 @@ fn count_place(p: Place, n: u16, i: u16, c: &mut [u16])
     c[at] += more;
 }
 
-// How often each node is an operand, counted from nothing.
-fn count_uses(t: &[u16], c: &mut [u16])
+// The lowest node that is refused, or how many nodes there are; of the nodes before it, how often each node is an operand, counted from nothing.
+fn count_uses(t: &[u16], c: &mut [u16]) -> usize
     requires { ⌜ Tallied (now t) 0 (now c) ⌝ }
-    ensures { λ _. ⌜ Tallied (now (t .entry)) (count (now (t .entry))) (now (c .exit)) ⌝ }
+    ensures { λ i. ⌜ FirstRefused pslRules (now (t .entry)) i × Tallied (now (t .entry)) i (now (c .exit)) ⌝ }
 {
     let rules = PSL;
     let n = t.len() / 3;
     let mut i: usize = 0;
     while i < n {
-        let k = t[3 * i] as usize;
-        let h = rules.shapes[k];
+        let k = t[3 * i];
+        let l = t[3 * i + 1];
+        let r = t[3 * i + 2];
+        if rules.kinds <= k {
+            return i;
+        }
+        let at = k as usize;
+        let h = rules.shapes[at];
+        if !table::places_fit(h, i as u16, l, r, t, rules.booleans) {
+            return i;
+        }
         let p = h.0;
         let q = h.1;
-        count_place(p, t[3 * i + 1], i as u16, &mut *c);
-        count_place(q, t[3 * i + 2], i as u16, &mut *c);
+        count_place(p, l, i as u16, &mut *c);
+        count_place(q, r, i as u16, &mut *c);
         i += 1;
     }
+    n
 }
 
-// Every node but the last is an operand once, and the last is a formula; the counts are kept in c.
-fn check_uses(t: &[u16], c: &mut [u16]) -> Checked
-    requires { ⌜ Tallied (now t) 0 (now c) ⌝ }
+// Every node but the last is an operand once, by the counts c, and the last is a formula.
+fn check_uses(t: &[u16], c: &[u16]) -> Checked
+    requires { ⌜ Tallied (now t) (count (now t)) (now c) ⌝ }
     ensures { λ r. ⌜ r ≡ checked (treeRefusal (now (t .entry))) ⌝ }
 {
-    count_uses(t, &mut *c);
     let last = t.len() / 3 - 1;
     let mut j: usize = 0;
     while j < last {
@@ -112,27 +120,30 @@ fn check_uses(t: &[u16], c: &mut [u16]) -> Checked
     Checked::Accepted
 }
 
-// A small table has a small list of counts: it is cleared at each check.
-fn check_tree(t: &[u16]) -> Checked
-    requires { ⌜ tableRefusal pslRules (now t) ≡ none ⌝ }
-    ensures { λ r. ⌜ r ≡ checked (treeRefusal (now (t .entry))) ⌝ }
+// The nodes, and then their uses; the counts are kept in c.
+fn check_nodes(t: &[u16], c: &mut [u16]) -> Checked
+    requires { ⌜ Tallied (now t) 0 (now c) ⌝ }
+    ensures { λ r. ⌜ r ≡ checked (pslRefusal (now (t .entry))) ⌝ }
 {
-    if t.len() <= 384 {
-        let mut c = [0u16; 128];
-        check_uses(t, &mut c[..])
-    } else {
-        let mut c = [0u16; 1024];
-        check_uses(t, &mut c[..])
+    let i = count_uses(t, &mut *c);
+    if i < t.len() / 3 {
+        return table::refused_at(PSL, t, i);
     }
+    check_uses(t, &*c)
 }
 
-// Refusals 1 to 8.
+// Refusals 1 to 8. A small table has a small list of counts: it is cleared at each check.
 pub fn check_psl(t: &[u16]) -> Checked
     ensures { λ r. ⌜ r ≡ checked (pslRefusal (now (t .entry))) ⌝ }
 {
-    let x = table::check_table(PSL, t);
-    match x {
-        Checked::Accepted => check_tree(t),
-        Checked::Refused(e) => Checked::Refused(e),
+    if !table::length_fits(PSL.most, t.len()) {
+        return Checked::Refused(Refusal(1));
+    }
+    if t.len() <= 384 {
+        let mut c = [0u16; 128];
+        check_nodes(t, &mut c[..])
+    } else {
+        let mut c = [0u16; 1024];
+        check_nodes(t, &mut c[..])
     }
 }

@@ -20,7 +20,7 @@ use Rattle.table.specs.declared.Checked.{Checked}
 use Rattle.table.specs.declared.Checked.the-variants.{Accepted, Refused}
 use Rattle.table.specs.Answer.{refused, checked}
 use Rattle.table.specs.Node.{count, kindAt, leftAt, rightAt, nodeAt}
-use Rattle.table.specs.Check.{unusedFits, signalFits, operandFits, sortFits, lowFits, allFit, lengthFits, known, mostKinds, shapeOf, masked, asksBoolean, WellMade, unless, placesRefusal, nodeRefusal, isBoolean, refusalAt, orElse, lowest, tableRefusal}
+use Rattle.table.specs.Check.{unusedFits, signalFits, operandFits, sortFits, lowFits, allFit, lengthFits, known, mostKinds, shapeOf, masked, unless, placesRefusal, nodeRefusal, isBoolean, refusalAt, orElse, lowest, tableRefusal}
 
 -- ── Tests and answers ──
 
@@ -159,6 +159,10 @@ named-sort p t n m = go (p .operand) (p .boolean)
     go true b = refl
     go false b = refl
 
+-- A place of the shape asks for a Boolean.
+abbrev pub asksBoolean : Shape → Bool
+asksBoolean h = (h .0 .operand && h .0 .boolean) || (h .1 .operand && h .1 .boolean)
+
 abbrev pub BothLow : Shape → ℕ → ℕ → ℕ → Bool
 BothLow h i l r = lowFits (h .0) l i && lowFits (h .1) r i
 
@@ -185,7 +189,7 @@ module _ (h : Shape) (i l r : ℕ) (t : List ℕ) (m : ℕ) where
     pub low-sorts : sortFits (h .0) (ltb (kindAt t l) m) && sortFits (h .1) (ltb (kindAt t r) m) ≡ BothFit
     low-sorts = rw (lows .0, lows .1)
 
-    -- Without Booleans there is nothing more to test.
+    -- Where there is no Boolean, and none is asked for, there is nothing more to test.
     pub low-plain : m ≡ 0 → asksBoolean h ≡ false → true ≡ BothFit
     low-plain z d =
         let f = either-false (h .0 .operand && h .0 .boolean) (h .1 .operand && h .1 .boolean) d in
@@ -245,6 +249,11 @@ module _ (R : Rules) (k : ℕ) (e : known R k ≡ true) where
 
   pub known-low : k < mostKinds
   known-low = ltb-true k mostKinds (both-true (ltb k (R .kinds)) (ltb k mostKinds) e .1)
+
+-- Rules that a check can use: every kind has a shape, and its masks are right.
+pub record WellMade (R : Rules) : Type 0 where
+  pub kinds : R .kinds ≤ mostKinds
+  pub masks : (k : ℕ) → k < mostKinds → masked (shapeOf R k .0) && masked (shapeOf R k .1) ≡ true
 
 module _ {R : Rules} (w : WellMade R) (k : ℕ) (h : k < mostKinds) where
   pub left-masked : masked (shapeOf R k .0) ≡ true

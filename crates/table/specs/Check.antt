@@ -87,16 +87,6 @@ shapeOf R k = getD (R .shapes) k (places (below 0) (below 0))
 abbrev pub masked : Place → Bool
 masked p = cond (p .operand) (eqb (p .mask) 65535 && eqb (p .limit) 0) (eqb (p .mask) 0)
 
--- A place of the shape asks for a Boolean.
-abbrev pub asksBoolean : Shape → Bool
-asksBoolean h = (h .0 .operand && h .0 .boolean) || (h .1 .operand && h .1 .boolean)
-
--- Rules that a check can use: every kind has a shape, its masks are right, and a Boolean is asked for only where some kinds are Booleans.
-pub record WellMade (R : Rules) : Type 0 where
-  pub kinds : R .kinds ≤ mostKinds
-  pub masks : (k : ℕ) → k < mostKinds → masked (shapeOf R k .0) && masked (shapeOf R k .1) ≡ true
-  pub sorts : R .booleans ≡ 0 → (k : ℕ) → k < mostKinds → asksBoolean (shapeOf R k) ≡ false
-
 -- ── The refusals ──
 
 -- The length n of a table: in threes, of one node or more, and not above the most.

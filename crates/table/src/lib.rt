@@ -9,7 +9,7 @@ ghost use lib.ListN.{length};
 ghost use Rattle.trace.specs.declared.Refusal.{Refusal};
 ghost use Rattle.table.specs.Node.{node, count, kindAt};
 ghost use Rattle.table.specs.Answer.{refused, checked};
-ghost use Rattle.table.specs.Check.{lengthFits, unusedFits, signalFits, operandFits, sortFits, lowFits, allFit, masked, asksBoolean, WellMade, unless, placesRefusal, nodeRefusal, tableRefusal, FirstRefused};
+ghost use Rattle.table.specs.Check.{lengthFits, unusedFits, signalFits, operandFits, sortFits, lowFits, allFit, masked, unless, placesRefusal, nodeRefusal, tableRefusal, FirstRefused};
 
 // The number of a node, counted from 0 along a table: never a point of time.
 pub struct NodeNo(pub u16);
@@ -164,19 +164,15 @@ pub fn places_low(h: Shape, i: u16, l: u16, r: u16) -> bool
     (l < bound(p, i)) & (r < bound(q, i))
 }
 
-// All four tests at once, and for both places, without a branch on what a place holds: first that it is low enough, then, where there are
-// Booleans, its sort.
-fn places_fit(h: Shape, i: u16, l: u16, r: u16, t: &[u16], booleans: u16) -> bool
-    requires { ⌜ (i < count (now t)) × (masked (h .0) ≡ true) × (masked (h .1) ≡ true) × (booleans ≡ 0 → asksBoolean h ≡ false) ⌝ }
+// All four tests at once, and for both places, without a branch on what a place holds: first that it is low enough, then its sort.
+pub fn places_fit(h: Shape, i: u16, l: u16, r: u16, t: &[u16], booleans: u16) -> bool
+    requires { ⌜ (i < count (now t)) × (masked (h .0) ≡ true) × (masked (h .1) ≡ true) ⌝ }
     ensures { λ x. ⌜ x ≡ (allFit (h .0) l i (ltb (kindAt (now (t .entry)) l) booleans) && allFit (h .1) r i (ltb (kindAt (now (t .entry)) r) booleans)) ⌝ }
 {
     let p = h.0;
     let q = h.1;
-    if !((l < bound(p, i)) & (r < bound(q, i))) {
+    if !places_low(h, i, l, r) {
         return false;
-    }
-    if booleans == 0 {
-        return true;
     }
     named_fits(p, l, t, booleans) & named_fits(q, r, t, booleans)
 }
@@ -230,30 +226,6 @@ pub fn check_node(rules: Rules, i: NodeNo, k: u16, l: u16, r: u16, lb: bool, rb:
     check_places(x, h, i.0, l, r, lb, rb)
 }
 
-// The lowest node that is refused, or how many nodes there are.
-fn first_refused(rules: Rules, t: &[u16]) -> usize
-    requires { ⌜ (count (now t) < 65536) × WellMade rules ⌝ }
-    ensures { λ i. ⌜ FirstRefused rules (now (t .entry)) i ⌝ }
-{
-    let n = t.len() / 3;
-    let mut i: usize = 0;
-    while i < n {
-        let k = t[3 * i];
-        let l = t[3 * i + 1];
-        let r = t[3 * i + 2];
-        if rules.kinds <= k {
-            return i;
-        }
-        let at = k as usize;
-        let h = rules.shapes[at];
-        if !places_fit(h, i as u16, l, r, t, rules.booleans) {
-            return i;
-        }
-        i += 1;
-    }
-    n
-}
-
 // The answer for a table of the right length, by its lowest node that is refused.
 pub fn refused_at(rules: Rules, t: &[u16], i: usize) -> Checked
     requires { ⌜ (lengthFits (rules .most) (length (now t)) ≡ true) × (i < count (now t)) × (i < 65536) × FirstRefused rules (now t) i ⌝ }
@@ -264,20 +236,4 @@ pub fn refused_at(rules: Rules, t: &[u16], i: usize) -> Checked
     let lb = kind_at(t, l) < rules.booleans;
     let rb = kind_at(t, r) < rules.booleans;
     check_node(rules, NodeNo(i as u16), t[3 * i], l, r, lb, rb)
-}
-
-// The check that both tables share.
-pub fn check_table(rules: Rules, t: &[u16]) -> Checked
-    requires { ⌜ WellMade rules ⌝ }
-    ensures { λ x. ⌜ x ≡ checked (tableRefusal rules (now (t .entry))) ⌝ }
-{
-    if !length_fits(rules.most, t.len()) {
-        let x = rules.numbers;
-        return Checked::Refused(Refusal(x.length));
-    }
-    let i = first_refused(rules, t);
-    if t.len() / 3 <= i {
-        return Checked::Accepted;
-    }
-    refused_at(rules, t, i)
 }

@@ -1,40 +1,75 @@
--- `check_psl` answers what both tables share, then what only PSL asks.
-use mathlib.Core.Path.{_≡_, sym, ap, _∙_}
-use mathlib.Core.Option.{none}
-use Rattle.table.specs.Answer.{checked}
-use Rattle.table.specs.Check.{tableRefusal}
-use Rattle.table.proofs.CheckLaw.{accepted, was-refused}
-use Rattle.psl.specs.Check.{pslRules}
-use Rattle.psl.proofs.CheckLaw.{rules-made, psl-first, psl-then}
+-- `check_psl` answers for the length, then for the nodes, from cleared counts, of which there are enough.
 use borrow.Author.Needs.{needs}
+use mathlib.Core.Path.{_≡_, sym, ap, _∙_}
+use mathlib.Core.Bool.{true}
+use lib.ListN.{length}
+use native.Mathlib.Omega.{arith}
+use borrow.Author.Tests.{not-true, not-false}
+use Rattle.table.specs.Check.{lengthFits}
+use Rattle.table.specs.Answer.{checked}
+use Rattle.table.proofs.CheckLaw.{sized, refused-length}
+use Rattle.psl.specs.Check.{pslRules}
+use Rattle.psl.proofs.CheckLaw.{untallied, psl-first}
 use Rattle.psl.proofs.check_psl.Statement.{statement}
 use Rattle.psl.proofs.check_psl.Tie as tie
+use Rattle.psl.proofs.check_psl.Reads as reads
+use Rattle.psl.proofs.check_psl.Lts as lts
+use Rattle.psl.proofs.check_nodes.Reads as check-nodes-reads
+use Rattle.table.proofs.length_fits.Reads as length-fits-reads
 
--- Past the tests that both tables share.
-fine : (c : tie.After-enum-told) → tableRefusal pslRules (c .before .before .before .before .args .t .now) ≡ none
-fine c = accepted _ _ (c .before .before .check-table .ensures) (c .enum-told .given .1)
+-- Past the test of the length.
+right-length : (e : tie.Else1) → lengthFits (pslRules .most) (length (e .before .before .before .args .t .now)) ≡ true
+right-length e = sym (e .before .length-fits .ensures .0) ∙ not-false _ (e .if1 .left)
 
-check-table-requires : tie.Need-check-table-requires
-check-table-requires c κs = rules-made
+-- src/lib.rt:139:9
+length-fits-requires : tie.Need-length-fits-requires
+length-fits-requires c κs = search needs
 
-enum-told : tie.Need-enum-told
-enum-told c = search needs
-
-check-tree-requires : tie.Need-check-tree-requires
-check-tree-requires c κs = fine c
-
-enum-known-x : tie.Need-enum-known-x
-enum-known-x c = search needs
-
+-- src/lib.rt:140:9
 returns : tie.Need-returns
-returns c = c .check-tree .ensures ∙ sym (ap checked (psl-then _ (fine (c .before))))
+returns c =
+    let f = c .before in
+    let t = f .before .before .args .t .now in
+    sym (ap checked (psl-first t _ (refused-length pslRules t (sym (f .length-fits .ensures .0) ∙ not-true (f .length-fits .result) (c .if1 .taken)))))
 
+-- src/lib.rt:144:24
+slice-aggregate-check-nodes : tie.Need-slice-aggregate-check-nodes
+slice-aggregate-check-nodes c = search needs
+
+-- src/lib.rt:144:9
+check-nodes-requires : tie.Need-check-nodes-requires
+check-nodes-requires c κs =
+    let e = c .before .before in
+    untallied (e .before .before .before .args .t .now) 128 (right-length e) (omega arith)
+
+-- src/lib.rt:147:24
+slice-aggregate-check-nodes-2 : tie.Need-slice-aggregate-check-nodes-2
+slice-aggregate-check-nodes-2 c = search needs
+
+-- src/lib.rt:147:9
+check-nodes-requires-2 : tie.Need-check-nodes-requires-2
+check-nodes-requires-2 c κs =
+    let e = c .before .before in
+    let t = e .before .before .before .args .t .now in
+    untallied t 1024 (right-length e) (sized pslRules t (right-length e) .low)
+
+-- src/lib.rt:136:1
 returns-2 : tie.Need-returns-2
-returns-2 c =
-    let x = c .before in
-    sym (ap checked (psl-first _ _ (was-refused _ _ _ (x .before .before .check-table .ensures) (x .x .given .1))))
+returns-2 c = search needs
+
+-- src/lib.rt:136:1
+returns-3 : tie.Need-returns-3
+returns-3 c = search needs
 
 pub check-psl-spec : {M : Type 1} → statement M
 check-psl-spec =
     tie.close
-    (tie.spec check-table-requires enum-told check-tree-requires enum-known-x returns returns-2)
+    (tie.spec
+    length-fits-requires
+    returns
+    slice-aggregate-check-nodes
+    check-nodes-requires
+    slice-aggregate-check-nodes-2
+    check-nodes-requires-2
+    returns-2
+    returns-3)

@@ -6,14 +6,14 @@ use mathlib.Core.Option.{none}
 use native.Mathlib.Omega.{arith}
 use borrow.Author.Tests.{lt-ltb, le-ltb}
 use Rattle.table.specs.Answer.{checked}
-use Rattle.table.specs.Node.{count}
 use Rattle.table.specs.Check.{lowest}
-use Rattle.table.proofs.CheckLaw.{Sized, table-sized, lowest-zero, lowest-next}
+use Rattle.table.proofs.CheckLaw.{Sized, sized, lowest-zero, lowest-next}
 use Rattle.psl.specs.Check.{pslRules, useRefusal}
-use Rattle.psl.specs.Counts.{Tallied}
 use Rattle.psl.proofs.CheckLaw.{in-counts, used-once, misused, uses-refused, root-refused, root-fine}
 use Rattle.psl.proofs.check_uses.Statement.{statement}
 use Rattle.psl.proofs.check_uses.Tie as tie
+use Rattle.psl.proofs.check_uses.Reads as reads
+use Rattle.psl.proofs.check_uses.Lts as lts
 
 abbrev Inv-loop : tie.InvT-loop
 Inv-loop t c last j₀ j = (j ≤ last) × (lowest (useRefusal t) j ≡ none)
@@ -21,67 +21,69 @@ Inv-loop t c last j₀ j = (j ≤ last) × (lowest (useRefusal t) j ≡ none)
 abbrev μ-loop : tie.MeasureT-loop
 μ-loop t c last j₀ j = last - j
 
--- The counts, and the count of nodes.
-tally : (lp : tie.At-loop Inv-loop μ-loop) → let u = lp .before .before .before in let t = u .before .before .before .before .args .t .now in Tallied t (count t) (u .count-uses .last .1 .0)
-tally lp = lp .before .before .before .count-uses .ensures
+abbrev start : tie.At-loop Inv-loop μ-loop → tie.Start Inv-loop μ-loop
+start lp = lp .before
 
-few : (lp : tie.At-loop Inv-loop μ-loop) → Sized pslRules (lp .before .before .before .before .before .before .before .args .t .now)
-few lp = table-sized pslRules _ (tally lp .table)
+few : (st : tie.Start Inv-loop μ-loop) → Sized pslRules (st .args .t .now)
+few st = sized pslRules _ (st .pre .right-length)
 
-count-uses-requires : tie.Need-count-uses-requires Inv-loop μ-loop
-count-uses-requires c κs = c .before .before .before .pre
-
+-- src/lib.rt:109:16
 sub-last : tie.Need-sub-last Inv-loop μ-loop
-sub-last c = let u = c .before .before in omega (arith, table-sized pslRules _ (u .count-uses .ensures .table) .some)
+sub-last c = omega (arith, few c .some)
 
+-- src/lib.rt:111:5
 loop-holds : tie.Need-loop-holds Inv-loop μ-loop
 loop-holds c = (omega arith, lowest-zero _)
 
+-- src/lib.rt:112:12
 mul-if1 : tie.Need-mul-if1 Inv-loop μ-loop
-mul-if1 c = omega (arith, few (c .before) .low)
+mul-if1 c = omega (arith, few (start (c .before)) .low)
 
-slice-read-if1 : tie.Need-slice-read-if1 Inv-loop μ-loop
-slice-read-if1 c = let lp = c .before .before in in-counts (tally lp) (lp .loop .j) (omega (arith, few lp .some))
+-- src/lib.rt:112:12
+shared-slice-read-if1 : tie.Need-shared-slice-read-if1 Inv-loop μ-loop
+shared-slice-read-if1 c = let lp = c .before .before in in-counts (start lp .pre) (lp .loop .j) (omega (arith, few (start lp) .some))
 
-same-length : tie.Need-same-length Inv-loop μ-loop
-same-length c = search needs
-
+-- src/lib.rt:113:13
 returns : tie.Need-returns Inv-loop μ-loop
 returns c =
     let lp = c .before .before .before in
-    sym (ap checked (uses-refused _ (lp .loop .j) (omega arith) (lp .loop .inv .1) (misused (tally lp) (lp .loop .j) (omega (arith, few lp .some)) (c .if1 .taken))))
+    let st = start lp in
+    sym (ap checked (uses-refused _ (lp .loop .j) (omega arith) (lp .loop .inv .1) (misused (st .pre) (lp .loop .j) (omega (arith, few st .some)) (c .if1 .taken))))
 
+-- src/lib.rt:115:9
 add-j : tie.Need-add-j Inv-loop μ-loop
 add-j c = search needs
 
+-- src/lib.rt:111:5
 loop-less : tie.Need-loop-less Inv-loop μ-loop
 loop-less c = search needs
 
+-- src/lib.rt:111:5
 loop-again : tie.Need-loop-again Inv-loop μ-loop
 loop-again c =
     let lp = c .before .before .before in
-    (omega arith, lowest-next (useRefusal _) (lp .loop .j) (lp .loop .inv .1) (used-once (tally lp) (lp .loop .j) (omega (arith, few lp .some)) (c .if1 .left)))
+    let st = start lp in
+    (omega arith, lowest-next (useRefusal _) (lp .loop .j) (lp .loop .inv .1) (used-once (st .pre) (lp .loop .j) (omega (arith, few st .some)) (c .if1 .left)))
 
+-- src/lib.rt:117:10
 mul-if2 : tie.Need-mul-if2 Inv-loop μ-loop
 mul-if2 c = search needs
 
+-- src/lib.rt:117:8
 mul-if2-2 : tie.Need-mul-if2-2 Inv-loop μ-loop
 mul-if2-2 c = search needs
 
+-- src/lib.rt:117:8
 shared-slice-read-if2 : tie.Need-shared-slice-read-if2 Inv-loop μ-loop
-shared-slice-read-if2 c = omega (arith, few (c .before .before) .some)
+shared-slice-read-if2 c = omega (arith, few (start (c .before .before)) .some)
 
-same-length-2 : tie.Need-same-length-2 Inv-loop μ-loop
-same-length-2 c = search needs
-
+-- src/lib.rt:118:9
 returns-2 : tie.Need-returns-2 Inv-loop μ-loop
 returns-2 c =
     let lp = c .before .before .before .before in
     sym (ap checked (root-refused _ (lp .loop .j) (omega arith) (lp .loop .inv .1) (lt-ltb _ 4 (c .if2 .taken))))
 
-same-length-3 : tie.Need-same-length-3 Inv-loop μ-loop
-same-length-3 c = search needs
-
+-- src/lib.rt:105:1
 returns-3 : tie.Need-returns-3 Inv-loop μ-loop
 returns-3 c =
     let lp = c .before .before .before .before in
@@ -93,12 +95,10 @@ check-uses-spec =
     (tie.spec
     Inv-loop
     μ-loop
-    count-uses-requires
     sub-last
     loop-holds
     mul-if1
-    slice-read-if1
-    same-length
+    shared-slice-read-if1
     returns
     add-j
     loop-less
@@ -106,7 +106,5 @@ check-uses-spec =
     mul-if2
     mul-if2-2
     shared-slice-read-if2
-    same-length-2
     returns-2
-    same-length-3
     returns-3)

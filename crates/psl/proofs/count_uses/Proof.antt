@@ -1,14 +1,24 @@
--- `count_uses` counts the operands of one node after the other.
+-- `count_uses` passes the nodes that are not refused and counts their operands; it stops at the first that is refused.
 use borrow.Author.Needs.{needs}
 use Prim.Native.Nat.{ℕ, _-_, _≤_, _<_}
-use mathlib.Core.Path.{_≡_, refl, subst, _∙_}
+use mathlib.Core.Path.{_≡_, refl, sym, subst, _∙_}
+use mathlib.Core.Option.{none}
+use mathlib.Core.List.{List}
 use native.Mathlib.Omega.{arith}
 use lib.ListN.{length}
-use Rattle.table.specs.Node.{count}
+use borrow.Author.Tests.{not-true, not-false}
+use Rattle.table.specs.Node.{count, kindAt}
+use Rattle.table.specs.Check.{mostKinds, refusalAt}
+use Rattle.table.proofs.CheckLaw.{left-masked, right-masked, kind-known, kind-unknown, fast-none, fast-some, unknown-some, sized}
+use Rattle.psl.specs.Check.{pslRules}
 use Rattle.psl.specs.Counts.{Tallied}
-use Rattle.psl.proofs.CheckLaw.{kind-low, few, left-room, right-room, tallied-next}
+use Rattle.psl.proofs.CheckLaw.{rules-made, left-room, right-room, tallied-next}
 use Rattle.psl.proofs.count_uses.Statement.{statement}
 use Rattle.psl.proofs.count_uses.Tie as tie
+use Rattle.psl.proofs.count_uses.Reads as reads
+use Rattle.psl.proofs.count_uses.Lts as lts
+use Rattle.psl.proofs.count_place.Reads as count-place-reads
+use Rattle.table.proofs.places_fit.Reads as places-fit-reads
 
 abbrev Inv-loop : tie.InvT-loop
 Inv-loop t c₀ rules n i₀ c i = (i ≤ n) × (length c ≡ length c₀) × Tallied t i c
@@ -16,97 +26,181 @@ Inv-loop t c₀ rules n i₀ c i = (i ≤ n) × (length c ≡ length c₀) × Ta
 abbrev μ-loop : tie.MeasureT-loop
 μ-loop t c₀ rules n i₀ c i = n - i
 
--- What a turn knows.
-abbrev tally : (u : tie.In-loop Inv-loop μ-loop) → Tallied (u .before .before .before .before .args .t .now) (u .before .loop .i) (u .before .loop .c)
-tally u = u .before .loop .inv .2
+-- What a turn knows, once the kind was read.
+abbrev turn : tie.Else1 Inv-loop μ-loop → tie.At-loop Inv-loop μ-loop
+turn u = u .before .before .before .before .before
 
-inside : (u : tie.In-loop Inv-loop μ-loop) → u .before .loop .i < count (u .before .before .before .before .args .t .now)
+abbrev table : tie.At-loop Inv-loop μ-loop → List ℕ
+table lp = lp .before .before .before .args .t .now
+
+low-kind : (u : tie.Else1 Inv-loop μ-loop) → kindAt (table (turn u)) (turn u .loop .i) < mostKinds
+low-kind u = omega arith
+
+few : (lp : tie.At-loop Inv-loop μ-loop) → count (table lp) ≤ 1024
+few lp = sized pslRules (table lp) (lp .loop .inv .2 .right-length) .low
+
+-- Past the tests, the node is not refused.
+abbrev read : tie.Else2 Inv-loop μ-loop → tie.Else1 Inv-loop μ-loop
+read e = e .before .before .before
+
+fine : (e : tie.Else2 Inv-loop μ-loop) → let lp = turn (read e) in refusalAt pslRules (table lp) (lp .loop .i) ≡ none
+fine e =
+    let u = read e in
+    let lp = turn u in
+    fast-none pslRules (table lp) (lp .loop .i) (kind-known rules-made _ (u .if1 .left)) (sym (e .before .places-fit .ensures) ∙ not-false _ (e .if2 .left))
+
+inside : (u : tie.Else1 Inv-loop μ-loop) → turn u .loop .i < count (table (turn u))
 inside u = omega arith
 
-abbrev turn : tie.After-count-place-arg Inv-loop μ-loop → tie.In-loop Inv-loop μ-loop
-turn c = c .before .before .before .before .before .before
-
+-- src/lib.rt:83:5
 loop-holds : tie.Need-loop-holds Inv-loop μ-loop
 loop-holds c = (omega arith, refl, c .before .before .pre)
 
+-- src/lib.rt:84:19
 mul-k : tie.Need-mul-k Inv-loop μ-loop
 mul-k c = search needs
 
+-- src/lib.rt:84:17
 mul-k-2 : tie.Need-mul-k-2 Inv-loop μ-loop
 mul-k-2 c = search needs
 
+-- src/lib.rt:84:17
 shared-slice-read-k : tie.Need-shared-slice-read-k Inv-loop μ-loop
 shared-slice-read-k c = search needs
 
-cast-k : tie.Need-cast-k Inv-loop μ-loop
-cast-k c = let u = c .before in omega (arith, kind-low (tally u) (inside u))
+-- src/lib.rt:85:19
+mul-l : tie.Need-mul-l Inv-loop μ-loop
+mul-l c = search needs
 
+-- src/lib.rt:85:19
+add-l : tie.Need-add-l Inv-loop μ-loop
+add-l c = search needs
+
+-- src/lib.rt:85:17
+mul-l-2 : tie.Need-mul-l-2 Inv-loop μ-loop
+mul-l-2 c = search needs
+
+-- src/lib.rt:85:17
+shared-slice-read-l : tie.Need-shared-slice-read-l Inv-loop μ-loop
+shared-slice-read-l c = search needs
+
+-- src/lib.rt:86:19
+mul-r : tie.Need-mul-r Inv-loop μ-loop
+mul-r c = search needs
+
+-- src/lib.rt:86:19
+add-r : tie.Need-add-r Inv-loop μ-loop
+add-r c = search needs
+
+-- src/lib.rt:86:17
+mul-r-2 : tie.Need-mul-r-2 Inv-loop μ-loop
+mul-r-2 c = search needs
+
+-- src/lib.rt:86:17
+shared-slice-read-r : tie.Need-shared-slice-read-r Inv-loop μ-loop
+shared-slice-read-r c = search needs
+
+-- src/lib.rt:88:13
+same-length : tie.Need-same-length Inv-loop μ-loop
+same-length c = search needs
+
+-- src/lib.rt:88:13
+returns : tie.Need-returns Inv-loop μ-loop
+returns c =
+    let lp = c .before .before .before .before .before in
+    let I = lp .loop .inv in
+    (record { passed = I .2 .passed; within = I .0; stopped = λ _. unknown-some pslRules (table lp) (lp .loop .i) (kind-unknown pslRules _ (c .if1 .taken)) }, I .2)
+
+-- src/lib.rt:90:18
+cast-at : tie.Need-cast-at Inv-loop μ-loop
+cast-at c = omega (arith, low-kind c)
+
+-- src/lib.rt:91:17
 mul-h : tie.Need-mul-h Inv-loop μ-loop
-mul-h c = let u = c .before in omega (arith, kind-low (tally u) (inside u))
+mul-h c = omega (arith, low-kind c)
 
+-- src/lib.rt:91:17
 element-copy-out-h : tie.Need-element-copy-out-h Inv-loop μ-loop
-element-copy-out-h c = let u = c .before in kind-low (tally u) (inside u)
+element-copy-out-h c = low-kind c
 
-mul-count-place : tie.Need-mul-count-place Inv-loop μ-loop
-mul-count-place c = search needs
+-- src/lib.rt:92:34
+cast-places-fit : tie.Need-cast-places-fit Inv-loop μ-loop
+cast-places-fit c = let u = c .before in omega (arith, few (turn u), inside u)
 
-add-count-place : tie.Need-add-count-place Inv-loop μ-loop
-add-count-place c = search needs
+-- src/lib.rt:92:13
+places-fit-requires : tie.Need-places-fit-requires Inv-loop μ-loop
+places-fit-requires c κs =
+    let u = c .before in
+    (inside u, left-masked rules-made _ (low-kind u), right-masked rules-made _ (low-kind u))
 
-mul-count-place-2 : tie.Need-mul-count-place-2 Inv-loop μ-loop
-mul-count-place-2 c = search needs
+-- src/lib.rt:93:13
+same-length-2 : tie.Need-same-length-2 Inv-loop μ-loop
+same-length-2 c = search needs
 
-shared-slice-read-count-place : tie.Need-shared-slice-read-count-place Inv-loop μ-loop
-shared-slice-read-count-place c = search needs
+-- src/lib.rt:93:13
+returns-2 : tie.Need-returns-2 Inv-loop μ-loop
+returns-2 c =
+    let p = c .before in
+    let lp = turn (p .before .before) in
+    let I = lp .loop .inv in
+    (record { passed = I .2 .passed; within = I .0; stopped = λ _. fast-some pslRules (table lp) (lp .loop .i) (sym (p .places-fit .ensures) ∙ not-true _ (c .if2 .taken)) }, I .2)
 
+-- src/lib.rt:97:27
 cast-count-place : tie.Need-cast-count-place Inv-loop μ-loop
-cast-count-place c = let u = c .before .before .before .before .before in omega (arith, few (tally u) (inside u))
+cast-count-place c = let u = read (c .before .before) in omega (arith, few (turn u), inside u)
 
+-- src/lib.rt:97:9
 count-place-requires : tie.Need-count-place-requires Inv-loop μ-loop
-count-place-requires c κs = let u = turn c in left-room (tally u) (inside u)
+count-place-requires c κs =
+    let e = c .before .before .before in
+    let u = read e in
+    left-room (turn u .loop .inv .2) (inside u) (fine e)
 
-mul-count-place-3 : tie.Need-mul-count-place-3 Inv-loop μ-loop
-mul-count-place-3 c = search needs
-
-add-count-place-2 : tie.Need-add-count-place-2 Inv-loop μ-loop
-add-count-place-2 c = search needs
-
-mul-count-place-4 : tie.Need-mul-count-place-4 Inv-loop μ-loop
-mul-count-place-4 c = search needs
-
-shared-slice-read-count-place-2 : tie.Need-shared-slice-read-count-place-2 Inv-loop μ-loop
-shared-slice-read-count-place-2 c = search needs
-
+-- src/lib.rt:98:27
 cast-count-place-2 : tie.Need-cast-count-place-2 Inv-loop μ-loop
-cast-count-place-2 c = let u = turn (c .before .before .before .before) in omega (arith, few (tally u) (inside u))
+cast-count-place-2 c = let u = read (c .before .before .before .before .before .before) in omega (arith, few (turn u), inside u)
 
+-- src/lib.rt:98:9
 count-place-requires-2 : tie.Need-count-place-requires-2 Inv-loop μ-loop
-count-place-requires-2 c κs = let l = c .before .before .before .before in let u = turn (l .before) in right-room (tally u) (inside u) _ (l .count-place .ensures)
+count-place-requires-2 c κs =
+    let l = c .before .before .before in
+    let e = l .before .before .before .before in
+    let u = read e in
+    right-room (turn u .loop .inv .2) (inside u) (fine e) _ (l .count-place .ensures)
 
+-- src/lib.rt:99:9
 add-i : tie.Need-add-i Inv-loop μ-loop
 add-i c = search needs
 
+-- src/lib.rt:83:5
 loop-less : tie.Need-loop-less Inv-loop μ-loop
 loop-less c = search needs
 
+-- src/lib.rt:83:5
 loop-again : tie.Need-loop-again Inv-loop μ-loop
 loop-again c =
     let r = c .before .before in
-    let l = r .before .before .before .before .before in
-    let u = turn (l .before) in
+    let l = r .before .before .before .before in
+    let e = l .before .before .before .before in
+    let u = read e in
+    let I = turn u .loop .inv in
     let L = l .count-place .ensures in
     let R = r .count-place2 .ensures in
-    (omega arith, R .same ∙ L .same ∙ u .before .loop .inv .1, tallied-next (tally u) (inside u) _ L _ R)
+    (omega arith, R .same ∙ L .same ∙ I .1, tallied-next (I .2) (inside u) (fine e) _ L _ R)
 
-same-length : tie.Need-same-length Inv-loop μ-loop
-same-length c = c .before .loop .inv .1
+-- src/lib.rt:76:1
+same-length-3 : tie.Need-same-length-3 Inv-loop μ-loop
+same-length-3 c = search needs
 
-returns : tie.Need-returns Inv-loop μ-loop
-returns c =
+-- src/lib.rt:76:1
+returns-3 : tie.Need-returns-3 Inv-loop μ-loop
+returns-3 c =
     let lp = c .before in
-    let t = lp .before .before .before .args .t .now in
+    let t = table lp in
+    let I = lp .loop .inv in
     let z : lp .loop .i ≡ count t = omega arith in
-    subst (λ (m : ℕ). Tallied t m (lp .loop .c)) z (lp .loop .inv .2)
+    let T = subst (λ (m : ℕ). Tallied t m (lp .loop .c)) z (I .2) in
+    (record { passed = T .passed; within = omega arith; stopped = λ h. absurd (omega arith) }, T)
 
 pub count-uses-spec : {M : Type 1} → statement M
 count-uses-spec =
@@ -118,23 +212,29 @@ count-uses-spec =
     mul-k
     mul-k-2
     shared-slice-read-k
-    cast-k
+    mul-l
+    add-l
+    mul-l-2
+    shared-slice-read-l
+    mul-r
+    add-r
+    mul-r-2
+    shared-slice-read-r
+    same-length
+    returns
+    cast-at
     mul-h
     element-copy-out-h
-    mul-count-place
-    add-count-place
-    mul-count-place-2
-    shared-slice-read-count-place
+    cast-places-fit
+    places-fit-requires
+    same-length-2
+    returns-2
     cast-count-place
     count-place-requires
-    mul-count-place-3
-    add-count-place-2
-    mul-count-place-4
-    shared-slice-read-count-place-2
     cast-count-place-2
     count-place-requires-2
     add-i
     loop-less
     loop-again
-    same-length
-    returns)
+    same-length-3
+    returns-3)
