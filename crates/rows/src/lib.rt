@@ -100,15 +100,32 @@ pub fn until_row(f: Row, g: Row, period: usize) -> Row
     }
 }
 
+// The row of not, and, or. The three kinds that most nodes have are told apart by a choice of results, which takes no branch.
+fn logic_row(k: u16, a: Row, b: Row) -> Row
+    requires { ⌜ (2 ≤ k) × (k < 5) ⌝ }
+    ensures { λ w. ⌜ ((lead loop : List ℕ) (l : ℕ) → Few lead loop → TellsNode lead loop k l a b w) ⌝ }
+{
+    if k == 3 {
+        return a & b;
+    }
+    if k == 4 {
+        return a | b;
+    }
+    !a
+}
+
 // The row of an LTL node of kind k, not a signal's, by its operands' rows a and b.
 pub fn node_row(k: u16, a: Row, b: Row, period: usize) -> Row
     requires { ⌜ period ≤ mostLetters ⌝ }
     ensures { λ w. ⌜ ((lead loop : List ℕ) (l : ℕ) → Few lead loop → length loop ≡ period → (k ≡ 1 → ⊥) → TellsNode lead loop k l a b w) ⌝ }
 {
+    if k < 2 {
+        return ALWAYS;
+    }
+    if k < 5 {
+        return logic_row(k, a, b);
+    }
     match k {
-        2 => !a,
-        3 => a & b,
-        4 => a | b,
         5 => next_row(a, period),
         6 => until_row(a, b, period),
         _ => ALWAYS,
