@@ -100,7 +100,7 @@ pub fn until_row(f: Row, g: Row, period: usize) -> Row
     }
 }
 
-// The row of not, and, or. The three kinds that most nodes have are told apart by a choice of results, which takes no branch.
+// The row of not, and, or. Most nodes are one of the three: two tests, which a processor guesses better than a jump by the kind.
 fn logic_row(k: u16, a: Row, b: Row) -> Row
     requires { ⌜ (2 ≤ k) × (k < 5) ⌝ }
     ensures { λ w. ⌜ ((lead loop : List ℕ) (l : ℕ) → Few lead loop → TellsNode lead loop k l a b w) ⌝ }
