@@ -1,1 +1,4 @@
+pub mod Printed
 pub mod Run
+pub mod Whole
+pub mod Progress
