@@ -14,7 +14,8 @@ use Rattle.lines.specs.Inner.Writer.{Wrote}
 use Rattle.run.specs.Run.{FirstAnswer, LaterAnswer}
 use Rattle.run.specs.Printed.{refusedText, tableText, firstText, laterText}
 use Rattle.run.specs.Whole.{endedAfter, openAfter, endedLines, openLine, inputLines, Begins, LaterLines, Continues, Prints, Runs}
-use Rattle.run.specs.Progress.{keptBytes, much, longest, Holds, Told, At, Within, FirstDone, LaterDone, LineDone, Keeps, Same}
+use Rattle.run.specs.Progress.{keptBytes, much, longest, Remembers, Told, At, Within}
+use Rattle.run.specs.Inner.{FirstDone, LaterDone, LineDone, Keeps, Same}
 use Rattle.run.specs.declared.First.{First}
 use Rattle.run.specs.declared.First.the-variants as First
 use Rattle.run.specs.declared.Later.{Later}
@@ -36,14 +37,14 @@ printed {w} {l} {at = at} done a h = ap (λ (x : List ℕ). done ++ x) (gathers 
 
 -- ── The state ──
 
-holds-same : (r : First) (s s′ : State) → s′ .more ≡ s .more → s′ .nodes ≡ s .nodes → s′ .size ≡ s .size → Holds r s → Holds r s′
-holds-same (First.Refused x) s s′ m n z h = m ∙ h
-holds-same (First.Tables i j) s s′ m n z (h, p, q) = (m ∙ h, n ∙ p, z ∙ q)
+remembers-same : (r : First) (s s′ : State) → s′ .more ≡ s .more → s′ .nodes ≡ s .nodes → s′ .size ≡ s .size → Remembers r s → Remembers r s′
+remembers-same (First.Refused x) s s′ m n z h = m ∙ h
+remembers-same (First.Tables i j) s s′ m n z (h, p, q) = (m ∙ h, n ∙ p, z ∙ q)
 
 told-same : (ls : List (List ℕ)) (out sheet table : List ℕ) (s s′ : State) → s′ .more ≡ s .more → s′ .nodes ≡ s .nodes → s′ .size ≡ s .size
     → Told ls out s sheet table → Told ls out s′ sheet table
 told-same [] out sheet table s s′ m n z (e, h) = (e, m ∙ h)
-told-same (l ∷ ls) out sheet table s s′ m n z (r, b, c, h) = (r, b, c, holds-same r s s′ m n z h)
+told-same (l ∷ ls) out sheet table s s′ m n z (r, b, c, h) = (r, b, c, remembers-same r s s′ m n z h)
 
 -- ── Nothing is taken yet ──
 
@@ -108,7 +109,7 @@ no-lines : (ls : List (List ℕ)) → length ls ≤ 0 → ls ≡ []
 no-lines [] h = refl
 no-lines (l ∷ ls) h = absurd (omega arith)
 
-first-told : {o out sheet table : List ℕ} {s : State} (r : First) → Begins o r sheet table → Holds r s → out ≡ firstText r table → Told (o ∷ []) out s sheet table
+first-told : {o out sheet table : List ℕ} {s : State} (r : First) → Begins o r sheet table → Remembers r s → out ≡ firstText r table → Told (o ∷ []) out s sheet table
 first-told (First.Refused x) b h e = (First.Refused x, b, e, h)
 first-told {table = table} (First.Tables n z) b h e = (First.Tables n z, b, ([], e ∙ sym (append-nil (tableText (take (3 * z) table))), refl), h)
 
@@ -156,7 +157,7 @@ module _ {read done line sheet table out : List ℕ} (s s′ : State) (a : At re
         counted = d .number ∙ ap (λ (ls : List (List ℕ)). 1 + length ls) (sym ended);
         kept = ap (λ (k : ℕ). take k line) (d .filled) ∙ ap (take keptBytes) (sym (open-end read []));
         told = subst (λ (ls : List (List ℕ)). Told ls (done ++ take (s′ .gathered) out′) s′ sheet′ table′) (sym ended)
-            (first-told (d .answer) (record { sheet₀ = sheet; table₀ = table; sheetRoom = room; tableRoom = room′; answers = whole }) (d .holds)
+            (first-told (d .answer) (record { sheet₀ = sheet; table₀ = table; sheetRoom = room; tableRoom = room′; answers = whole }) (d .remembers)
             (printed done (d .writes) fits ∙ ap (λ (x : List ℕ). x ++ firstText (d .answer) table′) (start .0)));
       }
 
@@ -240,7 +241,7 @@ at-over {read} {done} {line} {sheet} {table} {out} s a m rest = go (endedLines r
 
 -- ── The gathered answers are written ──
 
-pub at-written : {read done line sheet table out : List ℕ} (s s′ : State) → At read done s line sheet table out → Same s s′ → s′ .gathered ≡ 0 → s′ .more ≡ s .more
+pub at-written : {read done line sheet table out : List ℕ} (s s′ : State) → At read done s line sheet table out → Same s s′ → s′ .gathered ≡ 0 → s′ .more ≡ true
     → At read (done ++ take (s .gathered) out) s′ line sheet table out
 at-written {read} {done} {line} {sheet} {table} {out} s s′ a e g m =
     record {
@@ -248,5 +249,5 @@ at-written {read} {done} {line} {sheet} {table} {out} s s′ a e g m =
       kept = ap (λ (k : ℕ). take k line) (e .filled) ∙ a .kept;
       told = subst (λ (x : List ℕ). Told (endedLines read) x s′ sheet table)
           (sym (ap (λ (k : ℕ). (done ++ take (s .gathered) out) ++ take k out) g ∙ append-nil (done ++ take (s .gathered) out)))
-          (told-same (endedLines read) (done ++ take (s .gathered) out) sheet table s s′ m (e .nodes) (e .size) (a .told));
+          (told-same (endedLines read) (done ++ take (s .gathered) out) sheet table s s′ (m ∙ sym (e .over m)) (e .nodes) (e .size) (a .told));
     }

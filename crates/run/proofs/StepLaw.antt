@@ -8,21 +8,22 @@ use native.Mathlib.Numerals.{add-one}
 use borrow.Author.Tests.{ltb-true, ltb-false}
 use lib.Dec.{ltb}
 use lib.ListN.{length, take, set, getD, length-set}
-use lib.Seq.{take-suc}
+use lib.Seq.{take-suc, take-all}
 use Rattle.trace.specs.declared.Refusal.{Refusal}
 use Rattle.table.specs.Node.{_▸_}
 use Rattle.verdict.specs.declared.Verdict.{Verdict}
 use Rattle.lines.specs.Inner.Writer.{Wrote}
 use Rattle.run.specs.Run.{FirstAnswer, LaterAnswer}
 use Rattle.run.specs.Printed.{refusedText, traceText, tableText, firstText, laterText}
-use Rattle.run.specs.Progress.{keptBytes, much, longest, mostLines, Holds, Told, At, Within, FirstDone, LaterDone, LineDone, Keeps, Stops, Stepped, Ended, Same}
+use Rattle.run.specs.Progress.{much, mostLines, At, Within, Stops, Stepped, Ended}
+use Rattle.run.specs.Inner.{FirstDone, LaterDone, LineDone, Keeps, Same, Passed}
 use Rattle.run.specs.declared.First.{First}
 use Rattle.run.specs.declared.First.the-variants as First
 use Rattle.run.specs.declared.Later.{Later}
 use Rattle.run.specs.declared.Later.the-variants as Later
 use Rattle.run.specs.declared.stream.State.{State}
 use Rattle.run.proofs.AnswerLaw.{first-few}
-use Rattle.run.proofs.ProgressLaw.{at-same, at-byte, at-first, at-later, at-end-empty, at-end-open}
+use Rattle.run.proofs.ProgressLaw.{at-same, at-byte, at-first, at-later, at-end-empty, at-end-open, at-written}
 
 -- ── Answers ──
 
@@ -38,7 +39,7 @@ first-refused {line} {sheet} {table} {out} {out′} {sheet′} {table′} s r g 
       answers = subst (λ (y : First). FirstAnswer line sheet table y sheet′ table′) e a;
       writes = w;
       short = omega arith;
-      holds = refl;
+      remembers = refl;
       number = refl;
       filled = refl;
       taken = refl;
@@ -61,7 +62,7 @@ module _ (line sheet table sheet′ table′ : List ℕ) (r : First) (n z : ℕ)
         answers = answered;
         writes = w;
         short = omega arith;
-        holds = (refl, refl, refl);
+        remembers = (refl, refl, refl);
         number = refl;
         filled = refl;
         taken = refl;
@@ -308,3 +309,60 @@ within-as s s′ w number filled nodes size g =
 pub within-same : {most most′ : ℕ} {line sheet table out : List ℕ} (s s′ : State) → Within most s line sheet table out → Same s s′ → s′ .gathered ≤ most′
     → Within most′ s′ line sheet table out
 within-same s s′ w e g = within-as s s′ w (e .number) (e .filled) (e .nodes) (e .size) g
+
+-- The state r after some steps, each followed by a write, in a block from its first byte on.
+pub record Passing (block line₀ sheet₀ table₀ out₀ : List ℕ) (s : State) (line sheet table out : List ℕ) (r : State) : Type 0 where
+  pub within : Within much r line sheet table out
+  pub more : r .more ≡ true
+  pub upto : r .taken ≤ length block
+  pub number : r .number + length block ≤ r .taken + mostLines
+  pub tells : (read done : List ℕ) → At read done s line₀ sheet₀ table₀ out₀ → (done′ : List ℕ) × At (read ++ take (r .taken) block) done′ r line sheet table out
+
+-- The state before a block's first byte.
+abbrev pub anew : State → State
+anew s = record { number = s .number; filled = s .filled; nodes = s .nodes; size = s .size; gathered = s .gathered; taken = 0; more = s .more }
+
+pub pass-start : {block line sheet table out : List ℕ} (s : State) → Within much s line sheet table out → s .more ≡ true → s .number + length block ≤ mostLines
+    → Passing block line sheet table out (anew s) line sheet table out (anew s)
+pass-start {line = line} {sheet} {table} {out} s w m n =
+    record {
+      within = within-as s (anew s) w refl refl refl refl (w .gathered);
+      more = m;
+      upto = omega arith;
+      number = n;
+      tells = λ read done a. (done, subst (λ (x : List ℕ). At x done (anew s) line sheet table out) (sym (append-nil read)) a);
+    }
+
+module _ {block line₀ sheet₀ table₀ out₀ line sheet table out line′ sheet′ table′ out′ : List ℕ} {s : State} (r r′ r″ : State)
+    (p : Passing block line₀ sheet₀ table₀ out₀ s line sheet table out r) (d : Stepped block line sheet table out r r′ line′ sheet′ table′ out′) (e : Same r′ r″)
+    (g : r″ .gathered ≡ 0) where
+  pub pass-within : Within much r″ line′ sheet′ table′ out′
+  pass-within = within-same r′ r″ (d .within) e (omega arith)
+
+  pub pass-on : r″ .more ≡ true → Passing block line₀ sheet₀ table₀ out₀ s line′ sheet′ table′ out′ r″
+  pass-on m =
+      record {
+        within = pass-within;
+        more = m;
+        upto = omega (arith, d .upto, e .taken);
+        number = omega (arith, d .number, e .taken, e .number);
+        tells = λ read done a.
+            let (before, b) = p .tells read done a in (
+              before ++ take (r′ .gathered) out′,
+              subst (λ (k : ℕ). At (read ++ take k block) (before ++ take (r′ .gathered) out′) r″ line′ sheet′ table′ out′) (sym (e .taken))
+                  (at-written r′ r″ (d .tells read before b) e g m),
+            );
+      }
+
+  pub pass-over : (r″ .more ≡ true → ⊥) → (s₀ : State) → Passed block line₀ sheet₀ table₀ out₀ s₀ r″ line′ sheet′ table′ out′
+  pass-over m s₀ = record { within = pass-within; tells = λ h. absurd (m h) }
+
+pub pass-all : {block line₀ sheet₀ table₀ out₀ line sheet table out : List ℕ} (s r : State) → Passing block line₀ sheet₀ table₀ out₀ (anew s) line sheet table out r
+    → length block ≤ r .taken → Passed block line₀ sheet₀ table₀ out₀ s r line sheet table out
+pass-all {block} {line = line} {sheet} {table} {out} s r p h =
+    record {
+      within = p .within;
+      tells = λ _ read done a.
+          let (done′, b) = p .tells read done (at-same s (anew s) a refl refl refl refl refl refl) in
+          (done′, subst (λ (x : List ℕ). At (read ++ x) done′ r line sheet table out) (take-all (r .taken) block h) b);
+    }

@@ -12,7 +12,8 @@ ghost use mathlib.Core.Path.{_≡_};
 ghost use mathlib.Core.Bool.{true};
 ghost use Prim.Native.Nat.{_+_, _<_, _≤_};
 ghost use lib.ListN.{length};
-ghost use Rattle.run.specs.Progress.{much, mostLines, Within, FirstDone, LaterDone, LineDone, Keeps, Stops, Stepped, Ended, Same};
+ghost use Rattle.run.specs.Progress.{much, mostLines, Within, Stops, Stepped, Ended};
+ghost use Rattle.run.specs.Inner.{FirstDone, LaterDone, LineDone, Keeps, Same, Passed};
 
 // A line's bytes that are kept: one more than a line may have, so that a longer one is seen to be.
 const KEPT: usize = 16385;
@@ -199,15 +200,6 @@ fn written(out: &[u8], s: State) -> State
     }
 }
 
-// The run is over.
-fn over(s: State) -> State
-    ensures { λ r. ⌜ Same s r × (r .gathered ≡ s .gathered) ⌝ }
-{
-    let mut r = s;
-    r.more = false;
-    r
-}
-
 // All of a block of input: where a step stops, the gathered answers are written.
 fn pass(
     block: &[u8],
@@ -218,7 +210,7 @@ fn pass(
     s: State,
 ) -> State
     requires { ⌜ Within much s (now line) (now sheet) (now table) (now out) × (s .more ≡ true) × (s .number + length (now block) ≤ mostLines) ⌝ }
-    ensures { λ r. ⌜ Within much r (now (line .exit)) (now (sheet .exit)) (now (table .exit)) (now (out .exit)) ⌝ }
+    ensures { λ r. ⌜ Passed (now (block .entry)) (now (line .entry)) (now (sheet .entry)) (now (table .entry)) (now (out .entry)) s r (now (line .exit)) (now (sheet .exit)) (now (table .exit)) (now (out .exit)) ⌝ }
 {
     let mut r = s;
     r.taken = 0;
@@ -232,21 +224,25 @@ fn pass(
     r
 }
 
-// One block of input, or its end.
+// One block of input, or its end. A run of more lines than can be counted ends too.
 fn turn(line: &mut [u8], sheet: &mut [u16], table: &mut [u16], out: &mut [u8], s: State) -> State
     requires { ⌜ Within much s (now line) (now sheet) (now table) (now out) × (s .more ≡ true) ⌝ }
     ensures { λ r. ⌜ Within much r (now (line .exit)) (now (sheet .exit)) (now (table .exit)) (now (out .exit)) ⌝ }
 {
-    if MANY < s.number {
-        return over(s);
+    let mut r = s;
+    if MANY < r.number {
+        r.more = false;
+        return r;
     }
     let mut block = io::large_buffer();
     let n = io::count(libc::read(STDIN_FILENO, &mut block), &block);
     if n == 0 {
-        let r = last(line, sheet, table, out, s);
-        return over(written(out, r));
+        r = last(line, sheet, table, out, r);
+        r = written(out, r);
+        r.more = false;
+        return r;
     }
-    pass(&block[..n], line, sheet, table, out, s)
+    pass(&block[..n], line, sheet, table, out, r)
 }
 
 // Standard input to its end, or to a refused first line.

@@ -1,33 +1,30 @@
 -- Each step is followed by a write.
-use mathlib.Core.Path.{_≡_, refl}
-use mathlib.Core.Bool.{true}
+use Prim.Native.Nat.{_-_}
+use borrow.Author.Tests.{not-true, not-false}
+use Rattle.run.proofs.StepLaw.{goes-on, Passing, pass-start, pass-on, pass-over, pass-all}
+-- Each step is followed by a write.
 use native.Mathlib.Omega.{arith}
-use Prim.Native.Nat.{_+_, _-_, _≤_}
 use lib.ListN.{length}
-use borrow.Author.Tests.{not-false}
-use Rattle.run.specs.Progress.{much, mostLines, Within}
-use Rattle.run.proofs.StepLaw.{within-as, within-same}
 use borrow.Author.Needs.{needs}
 use Rattle.run.proofs.stream.pass.Statement.{statement}
 use Rattle.run.proofs.stream.pass.Tie as tie
 
 abbrev Inv-loop : tie.InvT-loop
-Inv-loop block line₀ sheet₀ table₀ out₀ r₀ line sheet table out r = Within much r line sheet table out × (r .more ≡ true) × (r .taken ≤ length block) × (r .number + length block ≤ r .taken + mostLines)
+Inv-loop block line₀ sheet₀ table₀ out₀ r₀ line sheet table out r = Passing block line₀ sheet₀ table₀ out₀ r₀ line sheet table out r
 
 abbrev μ-loop : tie.MeasureT-loop
 μ-loop block line₀ sheet₀ table₀ out₀ r₀ line sheet table out r = length block - r .taken
 
 loop-holds : tie.Need-loop-holds Inv-loop μ-loop
 loop-holds c =
-    let at-pre = c .before .before .before .before .before .pre in
     let x = c .before .before .before .before .before .args in
-    let w = at-pre .0 in
-    (within-as (x .s) _ w refl refl refl refl (w .gathered), at-pre .1, omega arith, at-pre .2)
+    let at-pre = c .before .before .before .before .before .pre in
+    pass-start (x .s) (at-pre .0) (at-pre .1) (at-pre .2)
 
 step-requires : tie.Need-step-requires Inv-loop μ-loop
 step-requires c κs =
     let at-loop = c .before .before .before .before .before .before .loop in
-    at-loop .inv
+    (at-loop .inv .within, at-loop .inv .more, at-loop .inv .upto, at-loop .inv .number)
 
 written-requires : tie.Need-written-requires Inv-loop μ-loop
 written-requires c κs =
@@ -60,9 +57,12 @@ same-length-4 c =
 
 returns : tie.Need-returns Inv-loop μ-loop
 returns c =
+    let at-loop = c .before .before .before .before .before .before .before .before .before .before .before .before .before .before .before .before .before .before .before .loop in
     let at-step = c .before .before .before .before .before .before .before .before .before .before .before .before .step in
     let at-written = c .before .before .written in
-    within-same (at-step .result) (at-written .result) (at-step .ensures .within) (at-written .ensures .0) (omega (arith, at-written .ensures .1))
+    let at-if2 = c .if2 in
+    let x = c .before .before .before .before .before .before .before .before .before .before .before .before .before .before .before .before .before .before .before .before .before .before .before .before .before .args in
+    pass-over (at-loop .r) (at-step .result) (at-written .result) (at-loop .inv) (at-step .ensures) (at-written .ensures .0) (at-written .ensures .1) (goes-on (at-written .result) (not-true _ (at-if2 .taken))) (x .s)
 
 loop-less : tie.Need-loop-less Inv-loop μ-loop
 loop-less c =
@@ -73,10 +73,11 @@ loop-less c =
 
 loop-again : tie.Need-loop-again Inv-loop μ-loop
 loop-again c =
+    let at-loop = c .before .before .before .before .before .before .before .before .before .before .before .before .before .before .before .before .before .before .before .loop in
     let at-step = c .before .before .before .before .before .before .before .before .before .before .before .before .step in
     let at-written = c .before .before .written in
     let at-if2 = c .if2 in
-    (within-same (at-step .result) (at-written .result) (at-step .ensures .within) (at-written .ensures .0) (omega (arith, at-written .ensures .1)), not-false _ (at-if2 .left), omega (arith, at-step .ensures .upto, at-written .ensures .0 .taken), omega (arith, at-step .ensures .number, at-written .ensures .0 .taken, at-written .ensures .0 .number))
+    pass-on (at-loop .r) (at-step .result) (at-written .result) (at-loop .inv) (at-step .ensures) (at-written .ensures .0) (at-written .ensures .1) (not-false _ (at-if2 .left))
 
 same-length-5 : tie.Need-same-length-5 Inv-loop μ-loop
 same-length-5 c = search needs
@@ -92,8 +93,10 @@ same-length-8 c = search needs
 
 returns-2 : tie.Need-returns-2 Inv-loop μ-loop
 returns-2 c =
+    let x = c .before .before .before .before .before .before .before .before .args in
     let at-loop = c .before .before .loop in
-    at-loop .inv .0
+    let at-if1 = c .if1 in
+    pass-all (x .s) (at-loop .r) (at-loop .inv) (omega (arith, at-if1 .left))
 
 pub pass-spec : {M : Type 1} → statement M
 pass-spec =
