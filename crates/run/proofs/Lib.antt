@@ -4,3 +4,4 @@ pub mod CutLaw
 pub mod AnswerLaw
 pub mod ProgressLaw
 pub mod StepLaw
+pub mod EmittedLaw

@@ -25,6 +25,28 @@ use Rattle.run.specs.declared.stream.State.{State}
 use Rattle.run.proofs.AnswerLaw.{first-few}
 use Rattle.run.proofs.ProgressLaw.{at-same, at-byte, at-first, at-later, at-end-empty, at-end-open, at-written}
 
+-- ── Bounds ──
+
+-- The same state, with other bytes gathered.
+pub within-as : {most most′ : ℕ} {line sheet table out : List ℕ} (s s′ : State) → Within most s line sheet table out → s′ .number ≡ s .number → s′ .filled ≡ s .filled
+    → s′ .nodes ≡ s .nodes → s′ .size ≡ s .size → s′ .gathered ≤ most′ → Within most′ s′ line sheet table out
+within-as s s′ w number filled nodes size g =
+    record {
+      lineRoom = w .lineRoom;
+      sheetRoom = w .sheetRoom;
+      tableRoom = w .tableRoom;
+      outRoom = w .outRoom;
+      filled = omega (arith, w .filled);
+      nodes = omega (arith, w .nodes);
+      size = omega (arith, w .size);
+      gathered = g;
+      numbered = omega (arith, w .numbered);
+    }
+
+pub within-same : {most most′ : ℕ} {line sheet table out : List ℕ} (s s′ : State) → Within most s line sheet table out → Same s s′ → s′ .gathered ≤ most′
+    → Within most′ s′ line sheet table out
+within-same s s′ w e g = within-as s s′ w (e .number) (e .filled) (e .nodes) (e .size) g
+
 -- ── Answers ──
 
 abbrev pub begun : State → ℕ → ℕ → ℕ → Bool → State
@@ -130,6 +152,13 @@ module _ {line sheet table out : List ℕ} (s : State) (b : Within much s line s
 
 -- ── A step's loop ──
 
+pub stops-test : (b : Bool) (s : State) → s .more ≡ true → ltb much (s .gathered) ≡ b → Stops s b
+stops-test true s m e = λ _. ltb-true much (s .gathered) e
+stops-test false s m e = (m, ltb-false much (s .gathered) e)
+
+pub goes-on : (s : State) → s .more ≡ false → s .more ≡ true → ⊥
+goes-on s p q = let z : _≡_ {A = ℕ} 0 1 = cc in omega arith
+
 -- The state with a byte more taken, and with it a count of kept bytes.
 abbrev pub taking : State → State
 taking s = record { number = s .number; filled = s .filled; nodes = s .nodes; size = s .size; gathered = s .gathered; taken = s .taken + 1; more = s .more }
@@ -214,19 +243,8 @@ module _ {block line₀ sheet₀ table₀ out₀ line sheet table out : List ℕ
 
     pub line-goes : Stops r′ false → Going block line₀ sheet₀ table₀ out₀ s line sheet′ table′ out′ r′
     line-goes (m, few) =
-        let w = d .within in
         record {
-          within = record {
-            lineRoom = w .lineRoom;
-            sheetRoom = w .sheetRoom;
-            tableRoom = w .tableRoom;
-            outRoom = w .outRoom;
-            filled = w .filled;
-            nodes = w .nodes;
-            size = w .size;
-            gathered = few;
-            numbered = w .numbered;
-          };
+          within = within-as r′ r′ (d .within) refl refl refl refl few;
           more = m;
           from = omega (arith, d .taken, g .from);
           upto = omega (arith, d .taken);
@@ -238,17 +256,7 @@ pub going-end : {block line₀ sheet₀ table₀ out₀ line sheet table out : L
     → Going block line₀ sheet₀ table₀ out₀ s line sheet table out r → length block ≤ r .taken → Stepped block line₀ sheet₀ table₀ out₀ s r line sheet table out
 going-end r g h =
     record {
-      within = record {
-        lineRoom = g .within .lineRoom;
-        sheetRoom = g .within .sheetRoom;
-        tableRoom = g .within .tableRoom;
-        outRoom = g .within .outRoom;
-        filled = g .within .filled;
-        nodes = g .within .nodes;
-        size = g .within .size;
-        gathered = omega (arith, g .within .gathered);
-        numbered = g .within .numbered;
-      };
+      within = within-as r r (g .within) refl refl refl refl (omega (arith, g .within .gathered));
       goes = λ low. omega (arith, low);
       upto = g .upto;
       number = g .number;
@@ -256,32 +264,12 @@ going-end r g h =
       tells = g .tells;
     }
 
-pub stops-test : (b : Bool) (s : State) → s .more ≡ true → ltb much (s .gathered) ≡ b → Stops s b
-stops-test true s m e = λ _. ltb-true much (s .gathered) e
-stops-test false s m e = (m, ltb-false much (s .gathered) e)
-
-pub goes-on : (s : State) → s .more ≡ false → s .more ≡ true → ⊥
-goes-on s p q = let z : _≡_ {A = ℕ} 0 1 = cc in omega arith
-
 -- ── The input's end ──
 
 pub nothing-open : {line sheet table out : List ℕ} (s : State) → Within much s line sheet table out → s .filled ≡ 0 → 1 < s .number
     → Ended line sheet table out s s sheet table out
 nothing-open s w f h =
-    record {
-      within = record {
-        lineRoom = w .lineRoom;
-        sheetRoom = w .sheetRoom;
-        tableRoom = w .tableRoom;
-        outRoom = w .outRoom;
-        filled = w .filled;
-        nodes = w .nodes;
-        size = w .size;
-        gathered = omega (arith, w .gathered);
-        numbered = w .numbered;
-      };
-      tells = λ read done a. at-end-empty s a f h;
-    }
+    record { within = within-as s s w refl refl refl refl (omega (arith, w .gathered)); tells = λ read done a. at-end-empty s a f h }
 
 pub line-open : {line sheet table out sheet′ table′ out′ : List ℕ} (s s′ : State) → Within much s line sheet table out → (s .filled ≡ 0 → s .number ≤ 1)
     → LineDone line sheet table out s s′ sheet′ table′ out′ → Ended line sheet table out s s′ sheet′ table′ out′
@@ -289,26 +277,6 @@ line-open s s′ w h d =
     record { within = d .within; tells = λ read done a. at-end-open s a s′ (omega (arith, w .filled, w .lineRoom)) h (d .tells read done a) }
 
 -- ── The caller ──
-
--- The same state, with other bytes gathered.
-pub within-as : {most most′ : ℕ} {line sheet table out : List ℕ} (s s′ : State) → Within most s line sheet table out → s′ .number ≡ s .number → s′ .filled ≡ s .filled
-    → s′ .nodes ≡ s .nodes → s′ .size ≡ s .size → s′ .gathered ≤ most′ → Within most′ s′ line sheet table out
-within-as s s′ w number filled nodes size g =
-    record {
-      lineRoom = w .lineRoom;
-      sheetRoom = w .sheetRoom;
-      tableRoom = w .tableRoom;
-      outRoom = w .outRoom;
-      filled = omega (arith, w .filled);
-      nodes = omega (arith, w .nodes);
-      size = omega (arith, w .size);
-      gathered = g;
-      numbered = omega (arith, w .numbered);
-    }
-
-pub within-same : {most most′ : ℕ} {line sheet table out : List ℕ} (s s′ : State) → Within most s line sheet table out → Same s s′ → s′ .gathered ≤ most′
-    → Within most′ s′ line sheet table out
-within-same s s′ w e g = within-as s s′ w (e .number) (e .filled) (e .nodes) (e .size) g
 
 -- The state r after some steps, each followed by a write, in a block from its first byte on.
 pub record Passing (block line₀ sheet₀ table₀ out₀ : List ℕ) (s : State) (line sheet table out : List ℕ) (r : State) : Type 0 where

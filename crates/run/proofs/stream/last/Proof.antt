@@ -1,6 +1,5 @@
 -- The open line is answered as if byte 10 ended it.
 use mathlib.Core.Logic.{⊎-elim}
--- The open line is answered as if byte 10 ended it.
 use native.Mathlib.Omega.{arith}
 use Rattle.run.proofs.StepLaw.{nothing-open, line-open}
 use borrow.Author.Needs.{needs}

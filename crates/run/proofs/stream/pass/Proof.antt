@@ -2,7 +2,6 @@
 use Prim.Native.Nat.{_-_}
 use borrow.Author.Tests.{not-true, not-false}
 use Rattle.run.proofs.StepLaw.{goes-on, Passing, pass-start, pass-on, pass-over, pass-all}
--- Each step is followed by a write.
 use native.Mathlib.Omega.{arith}
 use lib.ListN.{length}
 use borrow.Author.Needs.{needs}

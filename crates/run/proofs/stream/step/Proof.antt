@@ -4,7 +4,7 @@ use native.Mathlib.Omega.{arith}
 use Prim.Native.Nat.{_-_}
 use lib.ListN.{length, getD}
 use Rattle.run.specs.Progress.{Stops}
-use Rattle.run.proofs.StepLaw.{Going, going-start, going-byte, line-stops, line-goes, going-end}
+use Rattle.run.proofs.StepLaw.{within-as, taking, Going, going-start, going-byte, line-stops, line-goes, going-end}
 use borrow.Author.Needs.{needs}
 use Rattle.run.proofs.stream.step.Statement.{statement}
 use Rattle.run.proofs.stream.step.Tie as tie
@@ -31,8 +31,7 @@ end-line-requires c κs =
     let at-loop = c .before .before .before .before .before .before .before .before .loop in
     let at-if1 = c .before .before .before .before .before .before .if1 in
     let g = at-loop .inv in
-    let w = g .within in
-    (record { lineRoom = w .lineRoom; sheetRoom = w .sheetRoom; tableRoom = w .tableRoom; outRoom = w .outRoom; filled = w .filled; nodes = w .nodes; size = w .size; gathered = w .gathered; numbered = w .numbered }, g .more, omega (arith, g .number, at-if1 .taken))
+    (within-as (at-loop .r) (taking (at-loop .r)) (g .within) refl refl refl refl (g .within .gathered), g .more, omega (arith, g .number, at-if1 .taken))
 
 stops-requires : tie.Need-stops-requires Inv-loop μ-loop
 stops-requires c κs = search needs

@@ -1,6 +1,5 @@
 -- The lists keep their room, and the turns fall.
 use Prim.Native.Nat.{ℕ, _<_}
--- The lists keep their room, and the turns fall.
 use lib.ListN.{length-replicate}
 -- The lists keep their room, and the turns fall.
 use mathlib.Core.Path.{_≡_, refl, sym}
