@@ -55,9 +55,6 @@ module _ (i k p q : ℕ) (l : List ℕ) where
       sound : nodeRefusal ltlRules i (node k p q) false false ≡ none
       sound = accepted _ a e d
 
-      pub known-kind : k < 7
-      known-kind = kind-low i k p q sound
-
       module _ {u v : List ℕ} (n : ℕ) (dry : Wrote (nodeLine i (node k p q)) u v 0 n) where
         pub no-room : length l < n → Answers i (node k p q) l (Refused (refused 24)) l
         no-room g =

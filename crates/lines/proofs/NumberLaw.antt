@@ -51,10 +51,17 @@ digits-more v d h g =
     let e = enough (10 * v + d) (suc v) v (omega arith) (omega arith) in
     simp (le-ltb (10 * v + d) 10 (omega arith), q, r) (ap (λ (x : List ℕ). x ++ ((48 + d) ∷ [])) e)
 
-pub digits-length : (n : ℕ) → length (digits n) ≤ n + 1
-digits-length =
-    digits-ind (λ n x. length x ≤ n + 1) (λ n h. omega arith)
-    (λ n x h l. omega (arith, length-append x ((48 + n % 10) ∷ [])))
+-- The least number of more than k + 1 digits.
+abbrev pub tens : ℕ → ℕ
+tens zero = 10
+tens (suc k) = 10 * tens k
+
+pub digits-short : (k n : ℕ) → n < tens k → length (digits n) ≤ suc k
+digits-short k n = digits-ind (λ n x. (k : ℕ) → n < tens k → length x ≤ suc k) (λ n h k g. omega arith) more n k
+  where
+    more : (n : ℕ) (x : List ℕ) → 10 ≤ n → ((k : ℕ) → n / 10 < tens k → length x ≤ suc k) → (k : ℕ) → n < tens k → length (x ++ ((48 + n % 10) ∷ [])) ≤ suc k
+    more n x h l zero g = absurd (omega arith)
+    more n x h l (suc k) g = omega (arith, length-append x ((48 + n % 10) ∷ []), l k (omega arith))
 
 -- ── A number from its digits ──
 

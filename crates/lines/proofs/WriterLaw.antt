@@ -1,11 +1,13 @@
 -- What each way out of the inner writers gives.
 use mathlib.Core.Path.{_≡_, refl, ap, sym, subst, _∙_}
+use mathlib.Core.Bool.{Bool, true, false}
 use mathlib.Core.List.{List, [], _∷_, _++_, map, append-assoc}
 use Prim.Native.Nat.{ℕ, zero, suc, _+_, _/_, _%_, _<_, _≤_}
 use native.Mathlib.Omega.{arith}
 use native.Mathlib.Numerals.{add-one}
-use native.Mathlib.Nat.{le-antisymm, le-of-suc-le-suc}
-use lib.ListN.{length, getD, set, take, length-append}
+use borrow.Author.Tests.{ltb-true, ltb-false}
+use lib.Dec.{ltb}
+use lib.ListN.{length, getD, set, take, length-append, List·getD-eq-default}
 use lib.Seq.{sets, take-suc, take-all, length-take-le}
 use Rattle.table.specs.Node.{node}
 use Rattle.table.proofs.KindLaw.{_⨾_, each}
@@ -13,7 +15,7 @@ use Rattle.lines.specs.Text.{text}
 use Rattle.lines.specs.Spelling.{digits, ending, ltlWord, ltlPlaces, nodeLine}
 use Rattle.lines.specs.Inner.Writer.{Wrote, spaced}
 use Rattle.lines.proofs.StoreLaw.{sets-sets}
-use Rattle.lines.proofs.NumberLaw.{digits-small, digits-more, digits-length}
+use Rattle.lines.proofs.NumberLaw.{digits-small, digits-more, digits-short}
 
 pub wrote-join : {v w l m n : List ℕ} {i j k : ℕ} → Wrote v l m i j → Wrote w m n j k → Wrote (v ++ w) l n i k
 wrote-join {v} {w} {l} {m} {n} {i} {j} {k} a b =
@@ -54,8 +56,8 @@ last-digit {l} {m} {m′} {at} {p} n h a e =
     ap digits (omega arith) ∙ digits-more (n / 10) (n % 10) (omega arith) (omega arith) in
     rw d (wrote-join a (record { is = e; ends = refl }))
 
-pub number-end : {l m : List ℕ} {at p n : ℕ} → n < 65536 → Wrote (digits n) l m at p → p ≤ at + 65536
-number-end {n = n} h a = omega (arith, a .ends, digits-length n)
+pub number-end : {l m : List ℕ} {at p n : ℕ} → n < 18446744073709551616 → Wrote (digits n) l m at p → p ≤ at + 20
+number-end {n = n} h a = omega (arith, a .ends, digits-short 19 n (omega arith))
 
 module _ {l : List ℕ} {at : ℕ} (n p q : ℕ) where
   pub no-number : n ≡ 0 → Wrote (spaced n p q) l l at at
@@ -80,25 +82,41 @@ module _ {l : List ℕ} {at : ℕ} (n p q : ℕ) where
 above : (k n : ℕ) → n ≤ k → (k ≡ n → ⊥) → n + 1 ≤ k
 above k n h z = omega arith
 
-pub last-kind : (k : ℕ) → k < 7 → (k ≡ 0 → ⊥) → (k ≡ 1 → ⊥) → (k ≡ 2 → ⊥) → (k ≡ 3 → ⊥) → (k ≡ 4 → ⊥) → (k ≡ 5 → ⊥) → k ≡ 6
-last-kind k h a b c d e f =
-    let six : 6 ≤ k = above k 5 (above k 4 (above k 3 (above k 2 (above k 1 (above k 0 (omega arith) a) b) c) d) e) f in
-    le-antisymm (le-of-suc-le-suc h) six
+pub no-kind : (k : ℕ) → (k ≡ 0 → ⊥) → (k ≡ 1 → ⊥) → (k ≡ 2 → ⊥) → (k ≡ 3 → ⊥) → (k ≡ 4 → ⊥) → (k ≡ 5 → ⊥) → (k ≡ 6 → ⊥) → 7 ≤ k
+no-kind k a b c d e f g = above k 6 (above k 5 (above k 4 (above k 3 (above k 2 (above k 1 (above k 0 (omega arith) a) b) c) d) e) f) g
 
-pub word-end : {l m : List ℕ} {at p k : ℕ} → k < 7 → Wrote (ltlWord k) l m at p → p ≤ at + 5
+no-letters : (k : ℕ) → 7 ≤ k → ltlWord k ≡ []
 unfolding ltlWord
-word-end {at = at} {k = k} h a =
-    let short = each (λ k. length (ltlWord k) ≤ 5) 7
-    (omega arith ⨾ omega arith ⨾ omega arith ⨾ omega arith ⨾ omega arith ⨾ omega arith ⨾ omega arith ⨾ tt) k h in
-    omega (arith, a .ends, short)
+no-letters k h =
+    List·getD-eq-default (text "true" ∷ text "var" ∷ text "not" ∷ text "and" ∷ text "or" ∷ text "next" ∷ text "until" ∷ []) [] h
 
-spaced-length : (n p q : ℕ) → length (spaced n p q) ≤ p + q + 4
-spaced-length zero p q = omega arith
-spaced-length (suc zero) p q = omega (arith, digits-length p)
-spaced-length (suc (suc n)) p q = simp length-append (omega (arith, digits-length p, digits-length q))
+pub no-word : {l : List ℕ} {at : ℕ} (k : ℕ) → 7 ≤ k → Wrote (ltlWord k) l l at at
+no-word {l} {at} k h = subst (λ (w : List ℕ). Wrote w l l at at) (sym (no-letters k h)) (record { is = refl; ends = omega arith })
 
-pub numbers-end : {l m : List ℕ} {at e : ℕ} (n p q : ℕ) → p < 65536 → q < 65536 → Wrote (spaced n p q) l m at e → e ≤ at + 131076
-numbers-end n p q h g a = omega (arith, a .ends, spaced-length n p q)
+pub no-places : (k : ℕ) → 7 ≤ k → 0 ≡ ltlPlaces k
+unfolding ltlPlaces
+no-places k h = sym (List·getD-eq-default (0 ∷ 1 ∷ 1 ∷ 2 ∷ 2 ∷ 1 ∷ 2 ∷ []) 0 h)
+
+word-length : (k : ℕ) → length (ltlWord k) ≤ 5
+unfolding ltlWord
+word-length k = go (ltb k 7) refl
+  where
+    go : (b : Bool) → ltb k 7 ≡ b → length (ltlWord k) ≤ 5
+    go true e =
+        each (λ k. length (ltlWord k) ≤ 5) 7
+        (omega arith ⨾ omega arith ⨾ omega arith ⨾ omega arith ⨾ omega arith ⨾ omega arith ⨾ omega arith ⨾ tt) k (ltb-true k 7 e)
+    go false e = subst (λ (w : List ℕ). length w ≤ 5) (sym (no-letters k (ltb-false k 7 e))) (omega arith)
+
+pub word-end : {l m : List ℕ} {at p : ℕ} (k : ℕ) → Wrote (ltlWord k) l m at p → p ≤ at + 5
+word-end k a = omega (arith, a .ends, word-length k)
+
+spaced-length : (n p q : ℕ) → p < 65536 → q < 65536 → length (spaced n p q) ≤ 12
+spaced-length zero p q h g = omega arith
+spaced-length (suc zero) p q h g = omega (arith, digits-short 4 p (omega arith))
+spaced-length (suc (suc n)) p q h g = simp length-append (omega (arith, digits-short 4 p (omega arith), digits-short 4 q (omega arith)))
+
+pub numbers-end : {l m : List ℕ} {at e : ℕ} (n p q : ℕ) → p < 65536 → q < 65536 → Wrote (spaced n p q) l m at e → e ≤ at + 12
+numbers-end n p q h g a = omega (arith, a .ends, spaced-length n p q h g)
 
 ending-spaced : (n p q : ℕ) (t : List ℕ) → ending (map digits (take n (p ∷ q ∷ []))) ++ t ≡ spaced n p q ++ (41 ∷ t)
 ending-spaced zero p q t = refl
@@ -106,14 +124,20 @@ ending-spaced (suc zero) p q t = simp append-assoc
 ending-spaced (suc (suc zero)) p q t = simp append-assoc
 ending-spaced (suc (suc (suc n))) p q t = simp append-assoc
 
-pub line-wrote : {l₀ l₁ l₂ l₃ l₄ l₅ l₆ : List ℕ} {a b c d e f : ℕ} (i k p q : ℕ) → Wrote (text "(") l₀ l₁ 0 a → Wrote (digits i) l₁ l₂ a b
+line-bytes : (i k p q : ℕ) → nodeLine i (node k p q) ≡ text "(" ++ (digits i ++ (text " " ++ (ltlWord k ++ (spaced (ltlPlaces k) p q ++ text ")\n"))))
+line-bytes i k p q =
+    ap (λ (x : List ℕ). 40 ∷ x) (append-assoc (digits i) _ (text "\n")
+    ∙ ap (λ (x : List ℕ). digits i ++ (32 ∷ x)) (append-assoc (ltlWord k) _ (text "\n") ∙ ap (λ (x : List ℕ). ltlWord k ++ x) (ending-spaced (ltlPlaces k) p q (text "\n"))))
+
+pub line-wrote : {l₀ l₁ l₂ l₃ l₄ l₅ l₆ : List ℕ} {at a b c d e f : ℕ} (i k p q : ℕ) → Wrote (text "(") l₀ l₁ at a → Wrote (digits i) l₁ l₂ a b
     → Wrote (text " ") l₂ l₃ b c → Wrote (ltlWord k) l₃ l₄ c d → Wrote (spaced (ltlPlaces k) p q) l₄ l₅ d e → Wrote (text ")\n") l₅ l₆ e f
-    → Wrote (nodeLine i (node k p q)) l₀ l₆ 0 f
-line-wrote {l₀} {l₆ = l₆} {f = f} i k p q o x s w ns t =
+    → Wrote (nodeLine i (node k p q)) l₀ l₆ at f
+line-wrote {l₀} {l₆ = l₆} {at = at} {f = f} i k p q o x s w ns t =
     let all = wrote-join o (wrote-join x (wrote-join s (wrote-join w (wrote-join ns t)))) in
-    subst (λ (y : List ℕ). Wrote y l₀ l₆ 0 f) (sym (line-bytes i k p q)) all
-  where
-    line-bytes : (i k p q : ℕ) → nodeLine i (node k p q) ≡ text "(" ++ (digits i ++ (text " " ++ (ltlWord k ++ (spaced (ltlPlaces k) p q ++ text ")\n"))))
-    line-bytes i k p q =
-        ap (λ (x : List ℕ). 40 ∷ x) (append-assoc (digits i) _ (text "\n")
-        ∙ ap (λ (x : List ℕ). digits i ++ (32 ∷ x)) (append-assoc (ltlWord k) _ (text "\n") ∙ ap (λ (x : List ℕ). ltlWord k ++ x) (ending-spaced (ltlPlaces k) p q (text "\n"))))
+    subst (λ (y : List ℕ). Wrote y l₀ l₆ at f) (sym (line-bytes i k p q)) all
+
+-- The longest node line.
+pub line-length : (i k p q : ℕ) → i < 65536 → p < 65536 → q < 65536 → length (nodeLine i (node k p q)) ≤ 26
+line-length i k p q h g f =
+    subst (λ (x : List ℕ). length x ≤ 26) (sym (line-bytes i k p q))
+    (simp length-append (omega (arith, digits-short 4 i (omega arith), word-length k, spaced-length (ltlPlaces k) p q g f)))

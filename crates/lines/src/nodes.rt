@@ -1,63 +1,29 @@
 // Node lines: `(I kind)`, `(I kind P)` or `(I kind P Q)`, and byte 10.
+use crate::put::put_number;
+use crate::put::put_text;
 use ltl::LTL;
 use table::Checked;
 use table::NodeNo;
 use table::check_node;
 use trace::Refusal;
 ghost use mathlib.Core.Path.{_≡_};
-ghost use Prim.Native.Nat.{_+_, _<_, _≤_};
-ghost use lib.ListN.{length, set};
+ghost use Prim.Native.Nat.{_≤_};
+ghost use lib.ListN.{length};
 ghost use mathlib.Core.Bool.{false};
 ghost use Rattle.table.specs.Node.{node};
 ghost use Rattle.table.specs.Answer.{checked};
 ghost use Rattle.table.specs.Check.{nodeRefusal};
 ghost use Rattle.ltl.specs.Check.{ltlRules};
-ghost use Rattle.lines.specs.Spelling.{digits, ltlWord, ltlPlaces, nodeLine};
+ghost use Rattle.lines.specs.Spelling.{ltlWord, ltlPlaces, nodeLine};
 ghost use Rattle.lines.specs.NodeAnswer.{nodeAnswer, nodeList};
 ghost use Rattle.lines.specs.Inner.Writer.{Wrote, spaced};
 
 // The most nodes of an LTL table.
 const MOST_NODES: u16 = 4096;
 
-// A byte at a place, nothing past the end.
-fn put_byte(out: &mut [u8], at: usize, b: u8)
-    ensures { λ _. ⌜ now (out .exit) ≡ set (now (out .entry)) at b ⌝ }
-{
-    if at < out.len() {
-        out[at] = b;
-    }
-}
-
-// Bytes from a place on; the place after them.
-fn put_text(out: &mut [u8], at: usize, w: &[u8]) -> usize
-    requires { ⌜ at + length (now w) ≤ 1000000 ⌝ }
-    ensures { λ r. ⌜ Wrote (now (w .entry)) (now (out .entry)) (now (out .exit)) at r ⌝ }
-{
-    let mut i: usize = 0;
-    while i < w.len() {
-        put_byte(out, at + i, w[i]);
-        i += 1;
-    }
-    at + i
-}
-
-// A number in decimal.
-fn put_number(out: &mut [u8], at: usize, n: u16) -> usize
-    requires { ⌜ at ≤ 900000 ⌝ }
-    ensures { λ r. ⌜ Wrote (digits n) (now (out .entry)) (now (out .exit)) at r ⌝ }
-{
-    if n < 10 {
-        put_byte(out, at, (48 + n) as u8);
-        return at + 1;
-    }
-    let p = put_number(out, at, n / 10);
-    put_byte(out, p, (48 + n % 10) as u8);
-    p + 1
-}
-
-// The word of a kind.
+// The word of a kind; none for a kind that there is not.
 fn put_word(out: &mut [u8], at: usize, kind: u16) -> usize
-    requires { ⌜ (at ≤ 900000) × (kind < 7) ⌝ }
+    requires { ⌜ at ≤ 900000 ⌝ }
     ensures { λ r. ⌜ Wrote (ltlWord kind) (now (out .entry)) (now (out .exit)) at r ⌝ }
 {
     match kind {
@@ -67,16 +33,19 @@ fn put_word(out: &mut [u8], at: usize, kind: u16) -> usize
         3 => put_text(out, at, b"and"),
         4 => put_text(out, at, b"or"),
         5 => put_text(out, at, b"next"),
-        _ => put_text(out, at, b"until"),
+        6 => put_text(out, at, b"until"),
+        _ => at,
     }
 }
 
 // How many of its two places a kind uses.
 fn places(kind: u16) -> u16
-    requires { ⌜ kind < 7 ⌝ }
     ensures { λ r. ⌜ r ≡ ltlPlaces kind ⌝ }
 {
-    [0u16, 1, 1, 2, 2, 1, 2][kind as usize]
+    if kind < 7 {
+        return [0u16, 1, 1, 2, 2, 1, 2][kind as usize];
+    }
+    0
 }
 
 // The first n of two numbers, a space before each.
@@ -88,21 +57,21 @@ fn put_numbers(out: &mut [u8], at: usize, n: u16, p: u16, q: u16) -> usize
         return at;
     }
     let a = put_text(out, at, b" ");
-    let b = put_number(out, a, p);
+    let b = put_number(out, a, p as u64);
     if n == 1 {
         return b;
     }
     let c = put_text(out, b, b" ");
-    put_number(out, c, q)
+    put_number(out, c, q as u64)
 }
 
-// A node's line; how many bytes it has.
-fn put_line(out: &mut [u8], own: u16, kind: u16, left: u16, right: u16) -> usize
-    requires { ⌜ kind < 7 ⌝ }
-    ensures { λ r. ⌜ Wrote (nodeLine own (node kind left right)) (now (out .entry)) (now (out .exit)) 0 r ⌝ }
+// A node's line.
+pub fn put_line(out: &mut [u8], at: usize, own: u16, kind: u16, left: u16, right: u16) -> usize
+    requires { ⌜ at ≤ 400000 ⌝ }
+    ensures { λ r. ⌜ Wrote (nodeLine own (node kind left right)) (now (out .entry)) (now (out .exit)) at r ⌝ }
 {
-    let a = put_text(out, 0, b"(");
-    let b = put_number(out, a, own);
+    let a = put_text(out, at, b"(");
+    let b = put_number(out, a, own as u64);
     let c = put_text(out, b, b" ");
     let d = put_word(out, c, kind);
     let e = put_numbers(out, d, places(kind), left, right);
@@ -134,11 +103,11 @@ pub fn write_node(no: NodeNo, kind: u16, left: u16, right: u16, out: &mut [u8]) 
         Checked::Refused(x) => NodeLine::Refused(x),
         Checked::Accepted => {
             let mut none = [0u8; 1];
-            let n = put_line(&mut none, own, kind, left, right);
+            let n = put_line(&mut none, 0, own, kind, left, right);
             if out.len() < n {
                 return NodeLine::Refused(Refusal(24));
             }
-            put_line(out, own, kind, left, right);
+            put_line(out, 0, own, kind, left, right);
             NodeLine::Bytes(n)
         }
     }

@@ -1,1 +1,7 @@
 pub mod RunLaw
+pub mod PrintedLaw
+pub mod CutLaw
+pub mod AnswerLaw
+pub mod ProgressLaw
+pub mod StepLaw
+pub mod EmittedLaw

@@ -1,7 +1,8 @@
--- The array is the table.
-use borrow.Author.Needs.{needs}
+-- The array is the table; a kind that there is not has no places.
 use mathlib.Core.Path.{refl}
 use Rattle.lines.specs.Spelling.{ltlPlaces}
+use Rattle.lines.proofs.WriterLaw.{no-places}
+use borrow.Author.Needs.{needs}
 use Rattle.lines.proofs.nodes.places.Statement.{statement}
 use Rattle.lines.proofs.nodes.places.Tie as tie
 
@@ -15,5 +16,8 @@ returns : tie.Need-returns
 unfolding ltlPlaces
 returns c = refl
 
+returns-2 : tie.Need-returns-2
+returns-2 c = no-places _ (c .if1 .left)
+
 pub places-spec : {M : Type 1} → statement M
-places-spec = tie.close (tie.spec mul-result array-read-result returns)
+places-spec = tie.close (tie.spec mul-result array-read-result returns returns-2)

@@ -1,10 +1,10 @@
 -- The parts, one after the other.
-use borrow.Author.Needs.{needs}
 use native.Mathlib.Omega.{arith}
 use mathlib.Core.Path.{subst}
 use Prim.Native.Nat.{ℕ}
 use Rattle.lines.specs.Inner.Writer.{Wrote, spaced}
 use Rattle.lines.proofs.WriterLaw.{number-end, word-end, numbers-end, line-wrote}
+use borrow.Author.Needs.{needs}
 use Rattle.lines.proofs.nodes.put_line.Statement.{statement}
 use Rattle.lines.proofs.nodes.put_line.Tie as tie
 
@@ -15,76 +15,73 @@ put-text-requires : tie.Need-put-text-requires
 put-text-requires c κs = search needs
 
 put-number-requires : tie.Need-put-number-requires
-put-number-requires c κs =
-    let at-put-text = c .before .before .before in
-    omega (arith, at-put-text .put-text .ensures .ends)
+put-number-requires c κs = search needs
 
 slice-aggregate-put-text-2 : tie.Need-slice-aggregate-put-text-2
 slice-aggregate-put-text-2 c = search needs
 
 put-text-requires-2 : tie.Need-put-text-requires-2
 put-text-requires-2 c κs =
-    let at-put-text = c .before .before .before .before .before .before .before .before in
-    let at-put-number = c .before .before .before .before in
-    omega (arith, at-put-text .put-text .ensures .ends, number-end (omega arith) (at-put-number .put-number .ensures))
+    let at-pre = c .before .before .before .before .before .before .before .before .before .before .before .before .pre in
+    let at-put-text = c .before .before .before .before .before .before .before .before .put-text in
+    let at-fits = c .before .before .before .before .before .before .before .before .before .before .before .before .fits in
+    let at-put-number = c .before .before .before .before .put-number in
+    omega (arith, at-pre, at-put-text .ensures .ends, number-end (omega (arith, at-fits .own .fits)) (at-put-number .ensures))
 
 put-word-requires : tie.Need-put-word-requires
 put-word-requires c κs =
-    let at-put-text = c .before .before .before .before .before .before .before .before .before .before .before .before in
-    let at-put-number = c .before .before .before .before .before .before .before .before in
-    let at-put-text2 = c .before .before .before in
-    let start = c .before .before .before .before .before .before .before .before .before .before .before .before .before .before .before .before in
-    (omega (arith, at-put-text .put-text .ensures .ends, number-end (omega arith) (at-put-number .put-number .ensures), at-put-text2 .put-text2 .ensures .ends), start .pre)
+    let at-pre = c .before .before .before .before .before .before .before .before .before .before .before .before .before .before .before .before .pre in
+    let at-put-text = c .before .before .before .before .before .before .before .before .before .before .before .before .put-text in
+    let at-fits = c .before .before .before .before .before .before .before .before .before .before .before .before .before .before .before .before .fits in
+    let at-put-number = c .before .before .before .before .before .before .before .before .put-number in
+    let at-put-text2 = c .before .before .before .put-text2 in
+    omega (arith, at-pre, at-put-text .ensures .ends, number-end (omega (arith, at-fits .own .fits)) (at-put-number .ensures), at-put-text2 .ensures .ends)
 
 places-requires : tie.Need-places-requires
 places-requires c κs = search needs
 
 put-numbers-requires : tie.Need-put-numbers-requires
 put-numbers-requires c κs =
-    let at-put-text = c .before .before .before .before .before .before .before .before .before .before .before .before .before .before .before .before .before in
-    let at-put-number = c .before .before .before .before .before .before .before .before .before .before .before .before .before in
-    let at-put-text2 = c .before .before .before .before .before .before .before .before in
-    let start = c .before .before .before .before .before .before .before .before .before .before .before .before .before .before .before .before .before .before .before .before .before in
-    let at-put-word = c .before .before .before .before in
-    omega (arith, at-put-text .put-text .ensures .ends, number-end (omega arith) (at-put-number .put-number .ensures), at-put-text2 .put-text2 .ensures .ends, word-end (start .pre) (at-put-word .put-word .ensures))
+    let at-pre = c .before .before .before .before .before .before .before .before .before .before .before .before .before .before .before .before .before .before .before .before .before .pre in
+    let at-put-text = c .before .before .before .before .before .before .before .before .before .before .before .before .before .before .before .before .before .put-text in
+    let at-fits = c .before .before .before .before .before .before .before .before .before .before .before .before .before .before .before .before .before .before .before .before .before .fits in
+    let at-put-number = c .before .before .before .before .before .before .before .before .before .before .before .before .before .put-number in
+    let at-put-text2 = c .before .before .before .before .before .before .before .before .put-text2 in
+    let x = c .before .before .before .before .before .before .before .before .before .before .before .before .before .before .before .before .before .before .before .before .before .args in
+    let at-put-word = c .before .before .before .before .put-word in
+    omega (arith, at-pre, at-put-text .ensures .ends, number-end (omega (arith, at-fits .own .fits)) (at-put-number .ensures), at-put-text2 .ensures .ends, word-end (x .kind) (at-put-word .ensures))
 
 slice-aggregate-put-text-3 : tie.Need-slice-aggregate-put-text-3
 slice-aggregate-put-text-3 c = search needs
 
 put-text-requires-3 : tie.Need-put-text-requires-3
 put-text-requires-3 c κs =
-    let at-put-text = c .before .before .before .before .before .before .before .before .before .before .before .before .before .before .before .before .before .before .before .before .before .before in
-    let at-put-number = c .before .before .before .before .before .before .before .before .before .before .before .before .before .before .before .before .before .before in
-    let at-put-text2 = c .before .before .before .before .before .before .before .before .before .before .before .before .before in
-    let start = c .before .before .before .before .before .before .before .before .before .before .before .before .before .before .before .before .before .before .before .before .before .before .before .before .before .before in
-    let at-put-word = c .before .before .before .before .before .before .before .before .before in
-    let at-places = c .before .before .before .before .before in
-    let at-put-numbers = c .before .before .before .before in
-    omega (
-      arith,
-      at-put-text .put-text .ensures .ends,
-      number-end (omega arith) (at-put-number .put-number .ensures),
-      at-put-text2 .put-text2 .ensures .ends,
-      word-end (start .pre) (at-put-word .put-word .ensures),
-      numbers-end (at-places .places .result) (start .args .left) (start .args .right) (omega arith) (omega arith) (at-put-numbers .put-numbers .ensures),
-    )
+    let at-pre = c .before .before .before .before .before .before .before .before .before .before .before .before .before .before .before .before .before .before .before .before .before .before .before .before .before .before .pre in
+    let at-put-text = c .before .before .before .before .before .before .before .before .before .before .before .before .before .before .before .before .before .before .before .before .before .before .put-text in
+    let at-fits = c .before .before .before .before .before .before .before .before .before .before .before .before .before .before .before .before .before .before .before .before .before .before .before .before .before .before .fits in
+    let at-put-number = c .before .before .before .before .before .before .before .before .before .before .before .before .before .before .before .before .before .before .put-number in
+    let at-put-text2 = c .before .before .before .before .before .before .before .before .before .before .before .before .before .put-text2 in
+    let x = c .before .before .before .before .before .before .before .before .before .before .before .before .before .before .before .before .before .before .before .before .before .before .before .before .before .before .args in
+    let at-put-word = c .before .before .before .before .before .before .before .before .before .put-word in
+    let at-places = c .before .before .before .before .before .places in
+    let at-put-numbers = c .before .before .before .before .put-numbers in
+    omega (arith, at-pre, at-put-text .ensures .ends, number-end (omega (arith, at-fits .own .fits)) (at-put-number .ensures), at-put-text2 .ensures .ends, word-end (x .kind) (at-put-word .ensures), numbers-end (at-places .result) (x .left) (x .right) (omega arith) (omega arith) (at-put-numbers .ensures))
 
 same-length : tie.Need-same-length
 same-length c = search needs
 
 returns : tie.Need-returns
 returns c =
-    let start = c .before .before .before .before .before .before .before .before .before .before .before .before .before .before .before .before .before .before .before .before .before .before .before .before .before .before .before .before .before in
-    let at-put-word = c .before .before .before .before .before .before .before .before .before .before .before .before in
-    let at-put-numbers = c .before .before .before .before .before .before .before in
-    let at-places = c .before .before .before .before .before .before .before .before in
-    let at-put-text = c .before .before .before .before .before .before .before .before .before .before .before .before .before .before .before .before .before .before .before .before .before .before .before .before .before in
-    let at-put-number = c .before .before .before .before .before .before .before .before .before .before .before .before .before .before .before .before .before .before .before .before .before in
-    let at-put-text2 = c .before .before .before .before .before .before .before .before .before .before .before .before .before .before .before .before in
-    let at-put-text3 = c .before .before in
-    let x = start .args in
-    let numbers = subst (λ (n : ℕ). Wrote (spaced n (x .left) (x .right)) (at-put-word .put-word .last .0) (at-put-numbers .put-numbers .last .0) (at-put-word .put-word .result) (at-put-numbers .put-numbers .result)) (at-places .places .ensures) (at-put-numbers .put-numbers .ensures) in
-    line-wrote (x .own) (x .kind) (x .left) (x .right) (at-put-text .put-text .ensures) (at-put-number .put-number .ensures) (at-put-text2 .put-text2 .ensures) (at-put-word .put-word .ensures) numbers (at-put-text3 .put-text3 .ensures)
+    let x = c .before .before .before .before .before .before .before .before .before .before .before .before .before .before .before .before .before .before .before .before .before .before .before .before .before .before .before .before .before .args in
+    let at-put-word = c .before .before .before .before .before .before .before .before .before .before .before .before .put-word in
+    let at-put-numbers = c .before .before .before .before .before .before .before .put-numbers in
+    let at-places = c .before .before .before .before .before .before .before .before .places in
+    let at-put-text = c .before .before .before .before .before .before .before .before .before .before .before .before .before .before .before .before .before .before .before .before .before .before .before .before .before .put-text in
+    let at-put-number = c .before .before .before .before .before .before .before .before .before .before .before .before .before .before .before .before .before .before .before .before .before .put-number in
+    let at-put-text2 = c .before .before .before .before .before .before .before .before .before .before .before .before .before .before .before .before .put-text2 in
+    let at-put-text3 = c .before .before .put-text3 in
+    let numbers = subst (λ (n : ℕ). Wrote (spaced n (x .left) (x .right)) (at-put-word .last .0) (at-put-numbers .last .0) (at-put-word .result) (at-put-numbers .result)) (at-places .ensures) (at-put-numbers .ensures) in
+    line-wrote (x .own) (x .kind) (x .left) (x .right) (at-put-text .ensures) (at-put-number .ensures) (at-put-text2 .ensures) (at-put-word .ensures) numbers (at-put-text3 .ensures)
 
 pub put-line-spec : {M : Type 1} → statement M
 put-line-spec =

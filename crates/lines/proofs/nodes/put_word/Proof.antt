@@ -1,10 +1,10 @@
 -- Each kind writes its word.
-use borrow.Author.Needs.{needs}
 use mathlib.Core.Path.{sym, subst}
 use Prim.Native.Nat.{ℕ}
 use Rattle.lines.specs.Spelling.{ltlWord}
 use Rattle.lines.specs.Inner.Writer.{Wrote}
-use Rattle.lines.proofs.WriterLaw.{last-kind}
+use Rattle.lines.proofs.WriterLaw.{no-word, no-kind}
+use borrow.Author.Needs.{needs}
 use Rattle.lines.proofs.nodes.put_word.Statement.{statement}
 use Rattle.lines.proofs.nodes.put_word.Tie as tie
 
@@ -56,10 +56,10 @@ same-length c = search needs
 returns : tie.Need-returns
 unfolding ltlWord
 returns c =
-    let start = c .before .before .before .before .before .before .before in
-    let at-put-text = c .before .before in
-    let at-match = c .before .before .before .before .before in
-    subst (λ (k : ℕ). Wrote (ltlWord k) (start .args .out .now) (at-put-text .put-text .last .0) (start .args .at) (at-put-text .put-text .result)) (sym (at-match .match .keys1)) (at-put-text .put-text .ensures)
+    let x = c .before .before .before .before .before .before .before .args in
+    let at-put-text = c .before .before .put-text in
+    let at-match = c .before .before .before .before .before .match in
+    subst (λ (k : ℕ). Wrote (ltlWord k) (x .out .now) (at-put-text .last .0) (x .at) (at-put-text .result)) (sym (at-match .keys1)) (at-put-text .ensures)
 
 same-length-2 : tie.Need-same-length-2
 same-length-2 c = search needs
@@ -67,10 +67,10 @@ same-length-2 c = search needs
 returns-2 : tie.Need-returns-2
 unfolding ltlWord
 returns-2 c =
-    let start = c .before .before .before .before .before .before .before in
-    let at-put-text2 = c .before .before in
-    let at-match = c .before .before .before .before .before in
-    subst (λ (k : ℕ). Wrote (ltlWord k) (start .args .out .now) (at-put-text2 .put-text2 .last .0) (start .args .at) (at-put-text2 .put-text2 .result)) (sym (at-match .match .keys2)) (at-put-text2 .put-text2 .ensures)
+    let x = c .before .before .before .before .before .before .before .args in
+    let at-put-text2 = c .before .before .put-text2 in
+    let at-match = c .before .before .before .before .before .match in
+    subst (λ (k : ℕ). Wrote (ltlWord k) (x .out .now) (at-put-text2 .last .0) (x .at) (at-put-text2 .result)) (sym (at-match .keys2)) (at-put-text2 .ensures)
 
 same-length-3 : tie.Need-same-length-3
 same-length-3 c = search needs
@@ -78,10 +78,10 @@ same-length-3 c = search needs
 returns-3 : tie.Need-returns-3
 unfolding ltlWord
 returns-3 c =
-    let start = c .before .before .before .before .before .before .before in
-    let at-put-text3 = c .before .before in
-    let at-match = c .before .before .before .before .before in
-    subst (λ (k : ℕ). Wrote (ltlWord k) (start .args .out .now) (at-put-text3 .put-text3 .last .0) (start .args .at) (at-put-text3 .put-text3 .result)) (sym (at-match .match .keys3)) (at-put-text3 .put-text3 .ensures)
+    let x = c .before .before .before .before .before .before .before .args in
+    let at-put-text3 = c .before .before .put-text3 in
+    let at-match = c .before .before .before .before .before .match in
+    subst (λ (k : ℕ). Wrote (ltlWord k) (x .out .now) (at-put-text3 .last .0) (x .at) (at-put-text3 .result)) (sym (at-match .keys3)) (at-put-text3 .ensures)
 
 same-length-4 : tie.Need-same-length-4
 same-length-4 c = search needs
@@ -89,10 +89,10 @@ same-length-4 c = search needs
 returns-4 : tie.Need-returns-4
 unfolding ltlWord
 returns-4 c =
-    let start = c .before .before .before .before .before .before .before in
-    let at-put-text4 = c .before .before in
-    let at-match = c .before .before .before .before .before in
-    subst (λ (k : ℕ). Wrote (ltlWord k) (start .args .out .now) (at-put-text4 .put-text4 .last .0) (start .args .at) (at-put-text4 .put-text4 .result)) (sym (at-match .match .keys4)) (at-put-text4 .put-text4 .ensures)
+    let x = c .before .before .before .before .before .before .before .args in
+    let at-put-text4 = c .before .before .put-text4 in
+    let at-match = c .before .before .before .before .before .match in
+    subst (λ (k : ℕ). Wrote (ltlWord k) (x .out .now) (at-put-text4 .last .0) (x .at) (at-put-text4 .result)) (sym (at-match .keys4)) (at-put-text4 .ensures)
 
 same-length-5 : tie.Need-same-length-5
 same-length-5 c = search needs
@@ -100,10 +100,10 @@ same-length-5 c = search needs
 returns-5 : tie.Need-returns-5
 unfolding ltlWord
 returns-5 c =
-    let start = c .before .before .before .before .before .before .before in
-    let at-put-text5 = c .before .before in
-    let at-match = c .before .before .before .before .before in
-    subst (λ (k : ℕ). Wrote (ltlWord k) (start .args .out .now) (at-put-text5 .put-text5 .last .0) (start .args .at) (at-put-text5 .put-text5 .result)) (sym (at-match .match .keys5)) (at-put-text5 .put-text5 .ensures)
+    let x = c .before .before .before .before .before .before .before .args in
+    let at-put-text5 = c .before .before .put-text5 in
+    let at-match = c .before .before .before .before .before .match in
+    subst (λ (k : ℕ). Wrote (ltlWord k) (x .out .now) (at-put-text5 .last .0) (x .at) (at-put-text5 .result)) (sym (at-match .keys5)) (at-put-text5 .ensures)
 
 same-length-6 : tie.Need-same-length-6
 same-length-6 c = search needs
@@ -111,10 +111,10 @@ same-length-6 c = search needs
 returns-6 : tie.Need-returns-6
 unfolding ltlWord
 returns-6 c =
-    let start = c .before .before .before .before .before .before .before in
-    let at-put-text6 = c .before .before in
-    let at-match = c .before .before .before .before .before in
-    subst (λ (k : ℕ). Wrote (ltlWord k) (start .args .out .now) (at-put-text6 .put-text6 .last .0) (start .args .at) (at-put-text6 .put-text6 .result)) (sym (at-match .match .keys6)) (at-put-text6 .put-text6 .ensures)
+    let x = c .before .before .before .before .before .before .before .args in
+    let at-put-text6 = c .before .before .put-text6 in
+    let at-match = c .before .before .before .before .before .match in
+    subst (λ (k : ℕ). Wrote (ltlWord k) (x .out .now) (at-put-text6 .last .0) (x .at) (at-put-text6 .result)) (sym (at-match .keys6)) (at-put-text6 .ensures)
 
 same-length-7 : tie.Need-same-length-7
 same-length-7 c = search needs
@@ -122,12 +122,17 @@ same-length-7 c = search needs
 returns-7 : tie.Need-returns-7
 unfolding ltlWord
 returns-7 c =
-    let at-match = c .before .before .before .before .before in
-    let start = c .before .before .before .before .before .before .before in
-    let at-put-text7 = c .before .before in
-    let r = at-match .match .rest in
-    let until = last-kind (start .args .kind) (start .pre .1) (r .0 .0 .0 .0 .0 .1) (r .0 .0 .0 .0 .1) (r .0 .0 .0 .1) (r .0 .0 .1) (r .0 .1) (r .1) in
-    subst (λ (k : ℕ). Wrote (ltlWord k) (start .args .out .now) (at-put-text7 .put-text7 .last .0) (start .args .at) (at-put-text7 .put-text7 .result)) (sym until) (at-put-text7 .put-text7 .ensures)
+    let x = c .before .before .before .before .before .before .before .args in
+    let at-put-text7 = c .before .before .put-text7 in
+    let at-match = c .before .before .before .before .before .match in
+    subst (λ (k : ℕ). Wrote (ltlWord k) (x .out .now) (at-put-text7 .last .0) (x .at) (at-put-text7 .result)) (sym (at-match .keys7)) (at-put-text7 .ensures)
+
+returns-8 : tie.Need-returns-8
+returns-8 c =
+    let at-match = c .match in
+    let x = c .before .before .args in
+    let r = at-match .rest in
+    no-word (x .kind) (no-kind (x .kind) (r .0 .0 .0 .0 .0 .0 .1) (r .0 .0 .0 .0 .0 .1) (r .0 .0 .0 .0 .1) (r .0 .0 .0 .1) (r .0 .0 .1) (r .0 .1) (r .1))
 
 pub put-word-spec : {M : Type 1} → statement M
 put-word-spec =
@@ -160,4 +165,5 @@ put-word-spec =
     same-length-6
     returns-6
     same-length-7
-    returns-7)
+    returns-7
+    returns-8)

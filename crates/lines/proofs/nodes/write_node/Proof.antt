@@ -1,15 +1,15 @@
 -- Each refusal first; then the line with no room gives its length, and the same writer fills the lent bytes.
-use borrow.Author.Needs.{needs}
 use native.Mathlib.Omega.{arith}
-use Rattle.lines.proofs.NodeLaw.{own-large, faulty, known-kind, no-room, line-written}
+use Rattle.lines.proofs.NodeLaw.{own-large, faulty, no-room, line-written}
+use borrow.Author.Needs.{needs}
 use Rattle.lines.proofs.nodes.write_node.Statement.{statement}
 use Rattle.lines.proofs.nodes.write_node.Tie as tie
 
 returns : tie.Need-returns
 returns c =
-    let start = c .before .before in
-    let x = start .args in
-    own-large (x .no .0) (x .kind) (x .left) (x .right) (x .out .now) (c .if1 .taken)
+    let x = c .before .before .args in
+    let at-if1 = c .if1 in
+    own-large (x .no .0) (x .kind) (x .left) (x .right) (x .out .now) (at-if1 .taken)
 
 check-alone-requires : tie.Need-check-alone-requires
 check-alone-requires c κs = search needs
@@ -24,56 +24,42 @@ slice-aggregate-put-line : tie.Need-slice-aggregate-put-line
 slice-aggregate-put-line c = search needs
 
 put-line-requires : tie.Need-put-line-requires
-put-line-requires c κs =
-    let start = c .before .before .before .before .before .before in
-    let at-if1 = c .before .before .before .before in
-    let at-check-alone = c .before .before .before in
-    let at-enum-told = c .before in
-    let x = start .args in
-    known-kind (x .no .0) (x .kind) (x .left) (x .right) (x .out .now) (omega (arith, at-if1 .if1 .left)) (at-check-alone .check-alone .result) (at-check-alone .check-alone .ensures) (at-enum-told .enum-told .given .1)
+put-line-requires c κs = search needs
 
 returns-2 : tie.Need-returns-2
 returns-2 c =
-    let start = c .before .before .before .before .before .before .before .before .before in
-    let at-if1 = c .before .before .before .before .before .before .before in
-    let at-check-alone = c .before .before .before .before .before .before in
-    let at-enum-told = c .before .before .before .before in
-    let at-put-line = c .before .before in
-    let x = start .args in
-    no-room (x .no .0) (x .kind) (x .left) (x .right) (x .out .now) (omega (arith, at-if1 .if1 .left)) (at-check-alone .check-alone .result) (at-check-alone .check-alone .ensures) (at-enum-told .enum-told .given .1) (at-put-line .put-line .result) (at-put-line .put-line .ensures) (c .if2 .taken)
+    let x = c .before .before .before .before .before .before .before .before .before .args in
+    let at-if1 = c .before .before .before .before .before .before .before .if1 in
+    let at-check-alone = c .before .before .before .before .before .before .check-alone in
+    let at-enum-told = c .before .before .before .before .enum-told in
+    let at-put-line = c .before .before .put-line in
+    let at-if2 = c .if2 in
+    no-room (x .no .0) (x .kind) (x .left) (x .right) (x .out .now) (omega (arith, at-if1 .left)) (at-check-alone .result) (at-check-alone .ensures) (at-enum-told .given .1) (at-put-line .result) (at-put-line .ensures) (at-if2 .taken)
 
 put-line-requires-2 : tie.Need-put-line-requires-2
-put-line-requires-2 c κs =
-    let start = c .before .before .before .before .before .before .before .before .before .before in
-    let at-if1 = c .before .before .before .before .before .before .before .before in
-    let at-check-alone = c .before .before .before .before .before .before .before in
-    let at-enum-told = c .before .before .before .before .before in
-    let x = start .args in
-    known-kind (x .no .0) (x .kind) (x .left) (x .right) (x .out .now) (omega (arith, at-if1 .if1 .left)) (at-check-alone .check-alone .result) (at-check-alone .check-alone .ensures) (at-enum-told .enum-told .given .1)
+put-line-requires-2 c κs = search needs
 
 returns-3 : tie.Need-returns-3
 returns-3 c =
-    let start = c .before .before .before .before .before .before in
-    let at-if1 = c .before .before .before .before in
-    let at-check-alone = c .before .before .before in
-    let at-x = c .before in
-    let x = start .args in
-    faulty (x .no .0) (x .kind) (x .left) (x .right) (x .out .now) (omega (arith, at-if1 .if1 .left)) (at-check-alone .check-alone .result) (at-check-alone .check-alone .ensures) (at-x .x .given .0 .0) (at-x .x .given .1)
+    let x = c .before .before .before .before .before .before .args in
+    let at-if1 = c .before .before .before .before .if1 in
+    let at-check-alone = c .before .before .before .check-alone in
+    let at-x = c .before .x in
+    faulty (x .no .0) (x .kind) (x .left) (x .right) (x .out .now) (omega (arith, at-if1 .left)) (at-check-alone .result) (at-check-alone .ensures) (at-x .given .0 .0) (at-x .given .1)
 
 same-length : tie.Need-same-length
 same-length c = search needs
 
 returns-4 : tie.Need-returns-4
 returns-4 c =
-    let start = c .before .before .before .before .before .before .before .before .before .before .before .before .before in
-    let at-if1 = c .before .before .before .before .before .before .before .before .before .before .before in
-    let at-check-alone = c .before .before .before .before .before .before .before .before .before .before in
-    let at-enum-told = c .before .before .before .before .before .before .before .before in
-    let at-put-line = c .before .before .before .before .before .before in
-    let at-if2 = c .before .before .before .before in
-    let at-put-line2 = c .before .before in
-    let x = start .args in
-    line-written (x .no .0) (x .kind) (x .left) (x .right) (x .out .now) (omega (arith, at-if1 .if1 .left)) (at-check-alone .check-alone .result) (at-check-alone .check-alone .ensures) (at-enum-told .enum-told .given .1) (at-put-line .put-line .result) (at-put-line .put-line .ensures) (omega (arith, at-if2 .if2 .left)) (at-put-line2 .put-line2 .ensures)
+    let x = c .before .before .before .before .before .before .before .before .before .before .before .before .before .args in
+    let at-if1 = c .before .before .before .before .before .before .before .before .before .before .before .if1 in
+    let at-check-alone = c .before .before .before .before .before .before .before .before .before .before .check-alone in
+    let at-enum-told = c .before .before .before .before .before .before .before .before .enum-told in
+    let at-put-line = c .before .before .before .before .before .before .put-line in
+    let at-if2 = c .before .before .before .before .if2 in
+    let at-put-line2 = c .before .before .put-line2 in
+    line-written (x .no .0) (x .kind) (x .left) (x .right) (x .out .now) (omega (arith, at-if1 .left)) (at-check-alone .result) (at-check-alone .ensures) (at-enum-told .given .1) (at-put-line .result) (at-put-line .ensures) (omega (arith, at-if2 .left)) (at-put-line2 .ensures)
 
 pub write-node-spec : {M : Type 1} → statement M
 write-node-spec =

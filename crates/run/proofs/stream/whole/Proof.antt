@@ -1,64 +1,70 @@
--- `run::stream::whole` is safe, and ends.
-use mathlib.Core.Path.{_≡_}
-use lib.ListN.{length}
+-- The lists keep their room, and the turns fall.
+use Prim.Native.Nat.{ℕ, _<_}
+use lib.ListN.{length-replicate}
+-- The lists keep their room, and the turns fall.
+use mathlib.Core.Path.{_≡_, refl, sym}
+use mathlib.Core.Bool.{true}
+use native.Mathlib.Omega.{arith}
+use Rattle.run.specs.Progress.{much, Within}
 use borrow.Author.Needs.{needs}
 use Rattle.run.proofs.stream.whole.Statement.{statement}
 use Rattle.run.proofs.stream.whole.Tie as tie
-use Rattle.run.proofs.stream.whole.Reads as reads
-use Rattle.run.proofs.stream.whole.Lts as lts
-use Rattle.run.proofs.stream.turn.Reads as turn-reads
 
 abbrev Inv-loop : tie.InvT-loop
-Inv-loop line₀ sheet₀ table₀ out₀ s₀ turns₀ line sheet table out s turns = (16385 ≡ length line) × (3072 ≡ length sheet) × (12288 ≡ length table) × (163840 ≡ length out)
+Inv-loop line₀ sheet₀ table₀ out₀ s₀ turns₀ line sheet table out s turns = Within much s line sheet table out × (0 < turns → s .more ≡ true)
 
 abbrev μ-loop : tie.MeasureT-loop
 μ-loop line₀ sheet₀ table₀ out₀ s₀ turns₀ line sheet table out s turns = turns
 
--- src/stream.rt:220:5
 loop-holds : tie.Need-loop-holds Inv-loop μ-loop
-loop-holds c = search needs
+loop-holds c = (record { lineRoom = length-replicate {A = ℕ} 16385 0; sheetRoom = length-replicate {A = ℕ} 3072 0; tableRoom = length-replicate {A = ℕ} 12288 0; outRoom = length-replicate {A = ℕ} 180224 0; filled = omega arith; nodes = omega arith; size = omega arith; gathered = omega arith; numbered = omega arith }, λ _. refl)
 
--- src/stream.rt:221:18
 slice-aggregate-turn : tie.Need-slice-aggregate-turn Inv-loop μ-loop
-slice-aggregate-turn c = search needs
+slice-aggregate-turn c =
+    let at-loop = c .before .before .loop in
+    sym (at-loop .inv .0 .lineRoom)
 
--- src/stream.rt:221:29
 slice-aggregate-turn-2 : tie.Need-slice-aggregate-turn-2 Inv-loop μ-loop
-slice-aggregate-turn-2 c = search needs
+slice-aggregate-turn-2 c =
+    let at-loop = c .before .before .before .loop in
+    sym (at-loop .inv .0 .sheetRoom)
 
--- src/stream.rt:221:41
 slice-aggregate-turn-3 : tie.Need-slice-aggregate-turn-3 Inv-loop μ-loop
-slice-aggregate-turn-3 c = search needs
+slice-aggregate-turn-3 c =
+    let at-loop = c .before .before .before .before .loop in
+    sym (at-loop .inv .0 .tableRoom)
 
--- src/stream.rt:221:53
 slice-aggregate-turn-4 : tie.Need-slice-aggregate-turn-4 Inv-loop μ-loop
-slice-aggregate-turn-4 c = search needs
+slice-aggregate-turn-4 c =
+    let at-loop = c .before .before .before .before .before .loop in
+    sym (at-loop .inv .0 .outRoom)
 
--- src/stream.rt:221:9
 turn-requires : tie.Need-turn-requires Inv-loop μ-loop
-turn-requires c κs = search needs
+turn-requires c κs =
+    let at-loop = c .before .before .before .before .before .loop in
+    let at-loop-test = c .before .before .before .before .loop-test in
+    (at-loop .inv .0, at-loop .inv .1 (at-loop-test .taken))
 
--- src/stream.rt:222:29
 sub-turns : tie.Need-sub-turns Inv-loop μ-loop
 sub-turns c = search needs
 
--- src/stream.rt:220:5
 loop-less : tie.Need-loop-less Inv-loop μ-loop
 loop-less c = search needs
 
--- src/stream.rt:220:5
 loop-again : tie.Need-loop-again Inv-loop μ-loop
-loop-again c = search needs
+loop-again c =
+    let at-turn = c .before .before .before .before .before .turn in
+    let at-if1 = c .if1 in
+    (at-turn .ensures, λ _. at-if1 .taken)
 
--- src/stream.rt:220:5
 loop-less-2 : tie.Need-loop-less-2 Inv-loop μ-loop
 loop-less-2 c = search needs
 
--- src/stream.rt:220:5
 loop-again-2 : tie.Need-loop-again-2 Inv-loop μ-loop
-loop-again-2 c = search needs
+loop-again-2 c =
+    let at-turn = c .before .before .before .before .before .turn in
+    (at-turn .ensures, λ h. absurd (omega (arith, h)))
 
--- src/stream.rt:206:1
 returns : tie.Need-returns Inv-loop μ-loop
 returns c = search needs
 

@@ -1,117 +1,129 @@
--- `run::text::put_table` is safe: each node's three numbers are in the table.
-use mathlib.Core.Path.{_≡_}
-use Prim.Native.Nat.{_≤_, _-_, _*_}
+-- The head, then a line a node.
+use mathlib.Core.Path.{_≡_, refl}
+use native.Mathlib.Omega.{arith}
+use Prim.Native.Nat.{_≤_, _+_, _*_, _-_, _%_}
 use lib.ListN.{length}
+use Rattle.table.specs.Node.{kindAt, leftAt, rightAt}
+use Rattle.lines.specs.Inner.Writer.{Wrote}
+use Rattle.lines.proofs.WriterLaw.{number-end, line-length}
+use Rattle.run.specs.Printed.{nodeLines}
+use Rattle.run.proofs.PrintedLaw.{no-lines, line-more, table-wrote}
 use borrow.Author.Needs.{needs}
 use Rattle.run.proofs.text.put_table.Statement.{statement}
 use Rattle.run.proofs.text.put_table.Tie as tie
-use Rattle.run.proofs.text.put_table.Reads as reads
-use Rattle.run.proofs.text.put_table.Lts as lts
-use Rattle.run.proofs.text.put.Reads as put-reads
-use Rattle.run.proofs.text.put_node.Reads as put-node-reads
-use Rattle.run.proofs.text.put_number.Reads as put-number-reads
 
 abbrev Inv-loop : tie.InvT-loop
-Inv-loop out₀ at t nodes a b to₀ i₀ out to i = (i ≤ nodes) × (3 * nodes ≤ length t) × (length out ≡ length out₀)
+Inv-loop out₀ at t nodes a b to₀ i₀ out to i = (i ≤ nodes) × (length out ≡ length out₀) × Wrote (nodeLines t i) out₀ out to₀ to × (to ≤ to₀ + 26 * i)
 
 abbrev μ-loop : tie.MeasureT-loop
 μ-loop out₀ at t nodes a b to₀ i₀ out to i = nodes - i
 
--- src/text.rt:80:26
-slice-aggregate-put : tie.Need-slice-aggregate-put Inv-loop μ-loop
-slice-aggregate-put c = search needs
+slice-aggregate-put-text : tie.Need-slice-aggregate-put-text Inv-loop μ-loop
+slice-aggregate-put-text c = search needs
 
--- src/text.rt:80:9
-put-requires : tie.Need-put-requires Inv-loop μ-loop
-put-requires c κs = search needs
+put-text-requires : tie.Need-put-text-requires Inv-loop μ-loop
+put-text-requires c κs = search needs
 
--- src/text.rt:81:9
 put-number-requires : tie.Need-put-number-requires Inv-loop μ-loop
 put-number-requires c κs = search needs
 
--- src/text.rt:82:30
-slice-aggregate-put-2 : tie.Need-slice-aggregate-put-2 Inv-loop μ-loop
-slice-aggregate-put-2 c = search needs
+slice-aggregate-put-text-2 : tie.Need-slice-aggregate-put-text-2 Inv-loop μ-loop
+slice-aggregate-put-text-2 c = search needs
 
--- src/text.rt:82:9
-put-requires-2 : tie.Need-put-requires-2 Inv-loop μ-loop
-put-requires-2 c κs = search needs
+put-text-requires-2 : tie.Need-put-text-requires-2 Inv-loop μ-loop
+put-text-requires-2 c κs =
+    let at-pre = c .before .before .before .before .before .before .before .before .before .before .before .before .before .pre in
+    let at-put-text = c .before .before .before .before .before .before .before .before .put-text in
+    let at-put-number = c .before .before .before .before .put-number in
+    omega (arith, at-pre, at-put-text .ensures .ends, number-end (omega arith) (at-put-number .ensures))
 
--- src/text.rt:84:5
 loop-holds : tie.Need-loop-holds Inv-loop μ-loop
-loop-holds c = search needs
+loop-holds c =
+    let x = c .before .before .before .before .before .before .before .before .before .before .before .before .before .before .before .before .args in
+    (omega arith, refl, no-lines (x .t .now), omega arith)
 
--- src/text.rt:85:32
-cast-put-node : tie.Need-cast-put-node Inv-loop μ-loop
-cast-put-node c = search needs
+cast-put-line : tie.Need-cast-put-line Inv-loop μ-loop
+cast-put-line c = search needs
 
--- src/text.rt:85:54
-mul-put-node : tie.Need-mul-put-node Inv-loop μ-loop
-mul-put-node c = search needs
+mul-put-line : tie.Need-mul-put-line Inv-loop μ-loop
+mul-put-line c = search needs
 
--- src/text.rt:85:52
-mul-put-node-2 : tie.Need-mul-put-node-2 Inv-loop μ-loop
-mul-put-node-2 c = search needs
+mul-put-line-2 : tie.Need-mul-put-line-2 Inv-loop μ-loop
+mul-put-line-2 c = search needs
 
--- src/text.rt:85:52
-shared-slice-read-put-node : tie.Need-shared-slice-read-put-node Inv-loop μ-loop
-shared-slice-read-put-node c = search needs
+shared-slice-read-put-line : tie.Need-shared-slice-read-put-line Inv-loop μ-loop
+shared-slice-read-put-line c = search needs
 
--- src/text.rt:85:64
-mul-put-node-3 : tie.Need-mul-put-node-3 Inv-loop μ-loop
-mul-put-node-3 c = search needs
+mul-put-line-3 : tie.Need-mul-put-line-3 Inv-loop μ-loop
+mul-put-line-3 c = search needs
 
--- src/text.rt:85:64
-add-put-node : tie.Need-add-put-node Inv-loop μ-loop
-add-put-node c = search needs
+add-put-line : tie.Need-add-put-line Inv-loop μ-loop
+add-put-line c = search needs
 
--- src/text.rt:85:62
-mul-put-node-4 : tie.Need-mul-put-node-4 Inv-loop μ-loop
-mul-put-node-4 c = search needs
+mul-put-line-4 : tie.Need-mul-put-line-4 Inv-loop μ-loop
+mul-put-line-4 c = search needs
 
--- src/text.rt:85:62
-shared-slice-read-put-node-2 : tie.Need-shared-slice-read-put-node-2 Inv-loop μ-loop
-shared-slice-read-put-node-2 c = search needs
+shared-slice-read-put-line-2 : tie.Need-shared-slice-read-put-line-2 Inv-loop μ-loop
+shared-slice-read-put-line-2 c = search needs
 
--- src/text.rt:85:78
-mul-put-node-5 : tie.Need-mul-put-node-5 Inv-loop μ-loop
-mul-put-node-5 c = search needs
+mul-put-line-5 : tie.Need-mul-put-line-5 Inv-loop μ-loop
+mul-put-line-5 c = search needs
 
--- src/text.rt:85:78
-add-put-node-2 : tie.Need-add-put-node-2 Inv-loop μ-loop
-add-put-node-2 c = search needs
+add-put-line-2 : tie.Need-add-put-line-2 Inv-loop μ-loop
+add-put-line-2 c = search needs
 
--- src/text.rt:85:76
-mul-put-node-6 : tie.Need-mul-put-node-6 Inv-loop μ-loop
-mul-put-node-6 c = search needs
+mul-put-line-6 : tie.Need-mul-put-line-6 Inv-loop μ-loop
+mul-put-line-6 c = search needs
 
--- src/text.rt:85:76
-shared-slice-read-put-node-3 : tie.Need-shared-slice-read-put-node-3 Inv-loop μ-loop
-shared-slice-read-put-node-3 c = search needs
+shared-slice-read-put-line-3 : tie.Need-shared-slice-read-put-line-3 Inv-loop μ-loop
+shared-slice-read-put-line-3 c = search needs
 
--- src/text.rt:85:9
-put-node-requires : tie.Need-put-node-requires Inv-loop μ-loop
-put-node-requires c κs = search needs
+put-line-requires : tie.Need-put-line-requires Inv-loop μ-loop
+put-line-requires c κs =
+    let at-pre = c .before .before .before .before .before .before .before .before .before .before .before .before .before .before .before .before .before .before .before .before .before .before .pre in
+    let at-put-text = c .before .before .before .before .before .before .before .before .before .before .before .before .before .before .before .before .before .put-text in
+    let at-put-number = c .before .before .before .before .before .before .before .before .before .before .before .before .before .put-number in
+    let at-put-text2 = c .before .before .before .before .before .before .before .before .put-text2 in
+    let at-loop = c .before .before .before .before .before .loop in
+    omega (arith, at-pre, at-put-text .ensures .ends, number-end (omega arith) (at-put-number .ensures), at-put-text2 .ensures .ends, at-loop .inv .3)
 
--- src/text.rt:86:9
 add-i : tie.Need-add-i Inv-loop μ-loop
 add-i c = search needs
 
--- src/text.rt:84:5
 loop-less : tie.Need-loop-less Inv-loop μ-loop
 loop-less c = search needs
 
--- src/text.rt:84:5
 loop-again : tie.Need-loop-again Inv-loop μ-loop
-loop-again c = search needs
+loop-again c =
+    let x = c .before .before .before .before .before .before .before .before .before .before .before .before .before .before .before .before .before .before .before .before .before .before .before .before .before .args in
+    let at-loop = c .before .before .before .before .before .before .before .before .loop in
+    let at-pre = c .before .before .before .before .before .before .before .before .before .before .before .before .before .before .before .before .before .before .before .before .before .before .before .before .before .pre in
+    let at-put-line = c .before .before .put-line in
+    let at-shared-slice-known = c .before .before .before .before .before .before .before .before .before .before .before .before .before .before .before .before .before .before .before .before .before .before .before .shared-slice-known in (
+      omega arith,
+      search needs,
+      line-more (x .t .now) (at-loop .i) (at-loop .i % 65536) (omega (arith, at-pre)) (at-loop .inv .2) (at-put-line .ensures),
+      omega (
+        arith,
+        at-loop .inv .3,
+        at-put-line .ensures .ends,
+        line-length (at-loop .i % 65536) (kindAt (x .t .now) (at-loop .i)) (leftAt (x .t .now) (at-loop .i)) (rightAt (x .t .now) (at-loop .i)) (omega arith) (omega (arith, at-shared-slice-known .given (3 * at-loop .i + 1))) (omega (arith, at-shared-slice-known .given (3 * at-loop .i + 2))),
+      ),
+    )
 
--- src/text.rt:78:1
 same-length : tie.Need-same-length Inv-loop μ-loop
 same-length c = search needs
 
--- src/text.rt:78:1
 returns : tie.Need-returns Inv-loop μ-loop
-returns c = search needs
+returns c =
+    let x = c .before .before .before .before .before .before .before .before .before .before .before .before .before .before .before .before .before .before .args in
+    let at-loop = c .before .loop in
+    let at-loop-test = c .loop-test in
+    let at-put-text = c .before .before .before .before .before .before .before .before .before .before .before .before .before .put-text in
+    let at-put-number = c .before .before .before .before .before .before .before .before .before .put-number in
+    let at-put-text2 = c .before .before .before .before .put-text2 in
+    let at-pre = c .before .before .before .before .before .before .before .before .before .before .before .before .before .before .before .before .before .before .pre in
+    (table-wrote (x .t .now) (at-loop .i) (omega (arith, at-loop .inv .0, at-loop-test .left)) (at-put-text .ensures) (at-put-number .ensures) (at-put-text2 .ensures) (at-loop .inv .2), omega (arith, at-pre, at-loop .inv .3, at-loop .inv .0, at-put-text .ensures .ends, number-end (omega arith) (at-put-number .ensures), at-put-text2 .ensures .ends))
 
 pub put-table-spec : {M : Type 1} → statement M
 put-table-spec =
@@ -119,25 +131,25 @@ put-table-spec =
     (tie.spec
     Inv-loop
     μ-loop
-    slice-aggregate-put
-    put-requires
+    slice-aggregate-put-text
+    put-text-requires
     put-number-requires
-    slice-aggregate-put-2
-    put-requires-2
+    slice-aggregate-put-text-2
+    put-text-requires-2
     loop-holds
-    cast-put-node
-    mul-put-node
-    mul-put-node-2
-    shared-slice-read-put-node
-    mul-put-node-3
-    add-put-node
-    mul-put-node-4
-    shared-slice-read-put-node-2
-    mul-put-node-5
-    add-put-node-2
-    mul-put-node-6
-    shared-slice-read-put-node-3
-    put-node-requires
+    cast-put-line
+    mul-put-line
+    mul-put-line-2
+    shared-slice-read-put-line
+    mul-put-line-3
+    add-put-line
+    mul-put-line-4
+    shared-slice-read-put-line-2
+    mul-put-line-5
+    add-put-line-2
+    mul-put-line-6
+    shared-slice-read-put-line-3
+    put-line-requires
     add-i
     loop-less
     loop-again

@@ -2,8 +2,8 @@
 use borrow.Author.Needs.{needs}
 use mathlib.Core.Path.{sym}
 use lib.Seq.{set-out}
-use Rattle.lines.proofs.nodes.put_byte.Statement.{statement}
-use Rattle.lines.proofs.nodes.put_byte.Tie as tie
+use Rattle.lines.proofs.put.put_byte.Statement.{statement}
+use Rattle.lines.proofs.put.put_byte.Tie as tie
 
 slice-write-out : tie.Need-slice-write-out
 slice-write-out c = search needs

@@ -5,12 +5,12 @@ use Rattle.lines.proofs.WriterLaw.{one-digit, last-digit, number-end}
 use Prim.Native.Nat.{ℕ, _<_}
 use borrow.Fn.Kinds.{In}
 use borrow.Fn.PlainCycle.{Measures, is, falls, and}
-use Rattle.lines.proofs.nodes.put_number.Reads as put-number
-use Rattle.lines.proofs.nodes.put_number.Kinds as put-number-kinds
-use Rattle.lines.proofs.nodes.+put_number.Lts-put_number as put-number-lts
-use Rattle.lines.proofs.nodes.put_byte.Reads as put-byte-reads
-use Rattle.lines.proofs.nodes.+put_number.{statement}
-use Rattle.lines.proofs.nodes.+put_number.Tie.{close}
+use Rattle.lines.proofs.put.put_number.Reads as put-number
+use Rattle.lines.proofs.put.put_number.Kinds as put-number-kinds
+use Rattle.lines.proofs.put.+put_number.Lts-put_number as put-number-lts
+use Rattle.lines.proofs.put.put_byte.Reads as put-byte-reads
+use Rattle.lines.proofs.put.+put_number.{statement}
+use Rattle.lines.proofs.put.+put_number.Tie.{close}
 
 abbrev μ-put-number : Measures 1 put-number-kinds.ps ℕ
 μ-put-number κs a = a .1 .1 .0

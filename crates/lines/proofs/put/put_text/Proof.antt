@@ -5,8 +5,8 @@ use mathlib.Core.Path.{_≡_, refl}
 use Prim.Native.Nat.{_-_}
 use lib.ListN.{length}
 use Rattle.lines.proofs.WriterLaw.{Stored, stored-more, stored-all}
-use Rattle.lines.proofs.nodes.put_text.Statement.{statement}
-use Rattle.lines.proofs.nodes.put_text.Tie as tie
+use Rattle.lines.proofs.put.put_text.Statement.{statement}
+use Rattle.lines.proofs.put.put_text.Tie as tie
 
 abbrev Inv-loop : tie.InvT-loop
 Inv-loop out₀ at w i₀ out i = (length out ≡ length out₀) × Stored w out₀ out at i

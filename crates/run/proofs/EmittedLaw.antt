@@ -1,0 +1,243 @@
+-- The emitted table passes the LTL check: each node's operands come before it, and its signals are the formula's.
+use mathlib.Core.Path.{_≡_, refl, ap, sym, subst, _∙_}
+use mathlib.Core.Bool.{Bool, true, false}
+use mathlib.Core.List.{List, [], _∷_}
+use mathlib.Core.Option.{none}
+use Prim.Native.Nat.{ℕ, zero, suc, _+_, _-_, _*_, _/_, _%_, _<_, _≤_}
+use native.Mathlib.Omega.{arith}
+use native.Mathlib.Decide.{decLt}
+use native.Mathlib.Numerals.{add-one}
+use borrow.Author.Tests.{eq-eqb, lt-ltb, le-ltb, le-leb}
+use lib.ListN.{length, getD, List·getD-append}
+use lib.Seq.{getD-at}
+use Rattle.trace.specs.Letter.{signals}
+use Rattle.table.specs.Node.{Node, node, nodesOf, numbersOf, count, kindAt, leftAt, rightAt, nodeAt, _▸_, last}
+use Rattle.table.specs.Check.{operand, unused, signal, shapeOf, isBoolean, lengthFits, lowest, tableRefusal, refusalAt}
+use Rattle.table.proofs.NodeLaw.{nodes-numbers, length-numbers, length-more, node-at}
+use Rattle.table.proofs.CheckLaw.{Fits, Sound, node-none, lowest-zero, lowest-next, refused-none, table-sound, kind-in}
+use Rattle.table.proofs.KindLaw.{_⨾_, each}
+use Rattle.psl.specs.Formula.{BoolExpr, btrue, var, bnot, band, Formula, weak, strong, fnot, fand, next, until, abort, weighB, weigh}
+use Rattle.psl.specs.Table.{Part, boolean, formula, asBoolean, asFormula, partOf, formulaOf}
+use Rattle.psl.specs.Parts.{partAt}
+use Rattle.psl.specs.Check.{pslRules, pslRefusal}
+use Rattle.psl.proofs.CheckLaw.{psl-table}
+use Rattle.psl.proofs.PartLaw.{part-root, part-node}
+use Rattle.psl.proofs.AcceptedLaw.{some-node}
+use Rattle.ltl.specs.Check.{ltlRules, ltlRefusal}
+use Rattle.translate.specs.Emitted.{trueN, varN, notN, andN, orN, nextN, untilN, walkB, gate, literal, walk, emittedNodes, emitted, emittedSize, adds}
+use Rattle.translate.proofs.WalkLaw.{length-walkB, length-walk, length-emitted}
+use Rattle.translate.proofs.ArmLaw.{weightB-pos, weight-pos}
+
+-- ── The signals of a formula ──
+
+-- All are below 32.
+abbrev LowB : BoolExpr → Type 0
+LowB btrue = Unit {0}
+LowB (var k) = k < signals
+LowB (bnot b) = LowB b
+LowB (band b c) = LowB b × LowB c
+
+abbrev Low : Formula → Type 0
+Low (weak b) = LowB b
+Low (strong b) = LowB b
+Low (fnot f) = Low f
+Low (fand f g) = Low f × Low g
+Low (next f) = Low f
+Low (until f g) = Low f × Low g
+Low (abort f b) = Low f × LowB b
+
+abbrev LowPart : Part → Type 0
+LowPart (boolean b) = LowB b
+LowPart (formula f) = Low f
+
+boolean-low : (p : Part) → LowPart p → LowB (asBoolean p)
+boolean-low (boolean b) h = h
+boolean-low (formula f) h = tt
+
+formula-low : (p : Part) → LowPart p → Low (asFormula p)
+formula-low (boolean b) h = tt
+formula-low (formula f) h = h
+
+-- A node of an accepted table, kind by kind.
+part-low : (x : ℕ → Part) (i l r : ℕ) (b c : Bool) (k : ℕ) → k < 11 → Fits (shapeOf pslRules k .0) l i b → Fits (shapeOf pslRules k .1) r i c
+    → ((j : ℕ) → j < i → LowPart (x j)) → LowPart (partOf x (node k l r))
+unfolding partOf
+part-low x i l r b c =
+    each (λ k. Fits (shapeOf pslRules k .0) l i b → Fits (shapeOf pslRules k .1) r i c → ((j : ℕ) → j < i → LowPart (x j)) → LowPart (partOf x (node k l r))) 11
+    ((λ f g y. tt)
+    ⨾ (λ f g y. f .low)
+    ⨾ (λ f g y. boolean-low (x l) (y l (f .low)))
+    ⨾ (λ f g y. (boolean-low (x l) (y l (f .low)), boolean-low (x r) (y r (g .low))))
+    ⨾ (λ f g y. boolean-low (x l) (y l (f .low)))
+    ⨾ (λ f g y. boolean-low (x l) (y l (f .low)))
+    ⨾ (λ f g y. formula-low (x l) (y l (f .low)))
+    ⨾ (λ f g y. (formula-low (x l) (y l (f .low)), formula-low (x r) (y r (g .low))))
+    ⨾ (λ f g y. formula-low (x l) (y l (f .low)))
+    ⨾ (λ f g y. (formula-low (x l) (y l (f .low)), formula-low (x r) (y r (g .low))))
+    ⨾ (λ f g y. (formula-low (x l) (y l (f .low)), boolean-low (x r) (y r (g .low))))
+    ⨾ tt)
+
+parts-low : (t : List ℕ) → tableRefusal pslRules t ≡ none → (n i : ℕ) → i < n → i < count t → LowPart (partAt t i)
+parts-low t e zero i h g = absurd (omega arith)
+parts-low t e (suc n) i h g =
+    let s = table-sound pslRules t e i g in
+    subst LowPart (sym (part-node t e i g))
+    (part-low (partAt t) i (leftAt t i) (rightAt t i) _ _ (kindAt t i) (kind-in pslRules t e i g) (s .left) (s .right)
+    (λ j l. parts-low t e n j (omega arith) (omega arith)))
+
+signals-low : (t : List ℕ) → pslRefusal t ≡ none → Low (formulaOf t)
+signals-low t e =
+    let last = count t - 1 in
+    subst Low (sym (part-root t)) (formula-low (partAt t last) (parts-low t (psl-table t e) (count t) last (omega (arith, some-node t e)) (omega (arith, some-node t e))))
+
+-- ── Nodes that pass ──
+
+abbrev nodeOf : List Node → ℕ → Node
+nodeOf ns i = getD ns i (node 0 0 0)
+
+-- Node i passes the tests of the check.
+abbrev Passes : ℕ → Node → Type 0
+Passes i (node k l r) = (k < 7) × Fits (shapeOf ltlRules k .0) l i false × Fits (shapeOf ltlRules k .1) r i false
+
+record Fine (ns : List Node) : Type 0 where
+  passes : (i : ℕ) → i < length ns → Passes i (nodeOf ns i)
+
+fine-more : (ns : List Node) (x : Node) → Fine ns → Passes (length ns) x → Fine (ns ▸ x)
+fine-more ns x f p = record { passes = passes }
+  where
+    passes : (i : ℕ) → i < length (ns ▸ x) → Passes i (nodeOf (ns ▸ x) i)
+    passes i h =
+        elim (decLt i (length ns)) [
+          | yes d ↦ subst (Passes i) (sym (List·getD-append ns (x ∷ []) (node 0 0 0) i d)) (f .passes i d)
+          | no d ↦
+              let z : length ns ≡ i = omega (arith, length-more ns x) in
+              subst (λ (n : ℕ). Passes n (nodeOf (ns ▸ x) n)) z (subst (Passes (length ns)) (sym (getD-at ns x [] (node 0 0 0) (length ns) refl)) p)
+        ]
+
+-- A place of each sort.
+named : {n i : ℕ} → n < i → Fits (operand false) n i false
+named h = record { low = h; sort = refl }
+
+blank : {i : ℕ} → Fits unused 0 i false
+blank = record { low = omega arith; sort = refl }
+
+small : {k i : ℕ} → k < signals → Fits signal k i false
+small h = record { low = h; sort = refl }
+
+-- ── The walk ──
+
+lastB : (b : BoolExpr) (ns : List Node) → last (walkB b ns) < length (walkB b ns)
+lastB b ns = omega (arith, length-walkB b ns, weightB-pos b)
+
+lastF : (f : Formula) (a r : ℕ) (ns : List Node) → last (walk f a r ns) < length (walk f a r ns)
+lastF f a r ns = omega (arith, length-walk f a r ns, weight-pos f)
+
+fineB : (b : BoolExpr) → LowB b → (ns : List Node) → Fine ns → Fine (walkB b ns)
+unfolding walkB
+fineB btrue h ns f = fine-more ns trueN f (omega arith, blank, blank)
+fineB (var k) h ns f = fine-more ns (varN k) f (omega arith, small h, blank)
+fineB (bnot b) h ns f = fine-more (walkB b ns) (notN (last (walkB b ns))) (fineB b h ns f) (omega arith, named (lastB b ns), blank)
+fineB (band b c) (h, g) ns f =
+    let ms = walkB b ns in
+    let ps = walkB c ms in
+    fine-more ps (andN (last ms) (last ps)) (fineB c g ms (fineB b h ns f)) (omega arith, named (omega (arith, lastB b ns, length-walkB c ms)), named (lastB c ms))
+
+fine-gate : (x a r : ℕ) (ns : List Node) → x < length ns → a < length ns → r < length ns → Fine ns → Fine (gate x a r ns)
+fine-gate x a r ns hx ha hr f =
+    let ms = ns ▸ notN r in
+    let ps = ms ▸ andN x (last ms) in
+    let m = length-more ns (notN r) in
+    let p = length-more ms (andN x (last ms)) in
+    let fm = fine-more ns (notN r) f (omega arith, named hr, blank) in
+    let fp = fine-more ms (andN x (last ms)) fm (omega arith, named (omega arith), named (omega arith)) in
+    fine-more ps (orN a (last ps)) fp (omega arith, named (omega arith), named (omega arith))
+
+length-gate : (x a r : ℕ) (ns : List Node) → length (gate x a r ns) ≡ length ns + 3
+length-gate x a r ns =
+    let ms = ns ▸ notN r in
+    let ps = ms ▸ andN x (last ms) in
+    omega (arith, length-more ns (notN r), length-more ms (andN x (last ms)), length-more ps (orN a (last ps)))
+
+fine-literal : (b : BoolExpr) → LowB b → (a r : ℕ) (ns : List Node) → a < length ns → r < length ns → Fine ns → Fine (literal b a r ns)
+fine-literal b h a r ns ha hr f =
+    let ms = walkB b ns in
+    fine-gate (last ms) a r ms (lastB b ns) (omega (arith, length-walkB b ns)) (omega (arith, length-walkB b ns)) (fineB b h ns f)
+
+fineF : (f : Formula) → Low f → (a r : ℕ) (ns : List Node) → a < length ns → r < length ns → Fine ns → Fine (walk f a r ns)
+unfolding walk
+fineF (weak b) h a r ns ha hr f = fine-literal b h a r ns ha hr f
+fineF (strong b) h a r ns ha hr f = fine-literal b h a r ns ha hr f
+fineF (fnot g) h a r ns ha hr f =
+    let ms = walk g r a ns in
+    fine-more ms (notN (last ms)) (fineF g h r a ns hr ha f) (omega arith, named (lastF g r a ns), blank)
+fineF (fand g k) (h, i) a r ns ha hr f =
+    let ms = walk g a r ns in
+    let ps = walk k a r ms in
+    let m = length-walk g a r ns in
+    let p = length-walk k a r ms in
+    fine-more ps (andN (last ms) (last ps)) (fineF k i a r ms (omega arith) (omega arith) (fineF g h a r ns ha hr f))
+    (omega arith, named (omega (arith, lastF g a r ns)), named (lastF k a r ms))
+fineF (until g k) (h, i) a r ns ha hr f =
+    let ms = walk g a r ns in
+    let ps = walk k a r ms in
+    let m = length-walk g a r ns in
+    let p = length-walk k a r ms in
+    fine-more ps (untilN (last ms) (last ps)) (fineF k i a r ms (omega arith) (omega arith) (fineF g h a r ns ha hr f))
+    (omega arith, named (omega (arith, lastF g a r ns)), named (lastF k a r ms))
+fineF (next g) h a r ns ha hr f =
+    let ms = walk g a r ns in
+    let ps = ms ▸ nextN (last ms) in
+    let m = length-walk g a r ns in
+    let p = length-more ms (nextN (last ms)) in
+    fine-gate (last ps) a r ps (omega arith) (omega arith) (omega arith)
+    (fine-more ms (nextN (last ms)) (fineF g h a r ns ha hr f) (omega arith, named (lastF g a r ns), blank))
+fineF (abort g b) (h, i) a r ns ha hr f =
+    let ms = literal b a r ns in
+    let m = length-walkB b ns in
+    let p = length-gate (last (walkB b ns)) a r (walkB b ns) in
+    fineF g h (last ms) r ms (omega arith) (omega arith) (fine-literal b i a r ns ha hr f)
+
+-- ── The table ──
+
+fine-table : (ns : List Node) → Fine ns → 0 < length ns → length ns ≤ 4096 → ltlRefusal (numbersOf ns) ≡ none
+fine-table ns f some few = refused-none ltlRules (numbersOf ns) fits (length ns) counted (all (length ns) (omega arith))
+  where
+    counted : length ns ≡ count (numbersOf ns)
+    counted = omega (arith, length-numbers ns)
+
+    fits : lengthFits 4096 (length (numbersOf ns)) ≡ true
+    fits =
+        rw (
+          eq-eqb (length (numbersOf ns) % 3) 0 (omega (arith, length-numbers ns)),
+          lt-ltb 0 (length (numbersOf ns) / 3) (omega (arith, length-numbers ns)),
+          le-leb (length (numbersOf ns) / 3) 4096 (omega (arith, length-numbers ns)),
+        ) refl
+
+    no-boolean : (j : ℕ) → isBoolean ltlRules (numbersOf ns) j ≡ false
+    no-boolean j = le-ltb (kindAt (numbersOf ns) j) 0 (omega arith)
+
+    sound : (i : ℕ) → i < length ns → Sound ltlRules (numbersOf ns) i
+    sound i h =
+        let at = ap (λ (ms : List Node). nodeOf ms i) (sym (nodes-numbers ns)) ∙ node-at (numbersOf ns) i (omega (arith, length-numbers ns)) in
+        let (low, left, right) = subst (Passes i) at (f .passes i h) in
+        record {
+          kind = rw (lt-ltb (kindAt (numbersOf ns) i) 7 low, lt-ltb (kindAt (numbersOf ns) i) 11 (omega (arith, low))) refl;
+          left = subst (Fits (shapeOf ltlRules (kindAt (numbersOf ns) i) .0) (leftAt (numbersOf ns) i) i) (sym (no-boolean (leftAt (numbersOf ns) i))) left;
+          right = subst (Fits (shapeOf ltlRules (kindAt (numbersOf ns) i) .1) (rightAt (numbersOf ns) i) i) (sym (no-boolean (rightAt (numbersOf ns) i))) right;
+        }
+
+    all : (n : ℕ) → n ≤ length ns → lowest (refusalAt ltlRules (numbersOf ns)) n ≡ none
+    all zero h = lowest-zero (refusalAt ltlRules (numbersOf ns))
+    all (suc n) h =
+        subst (λ (m : ℕ). lowest (refusalAt ltlRules (numbersOf ns)) m ≡ none) (add-one n)
+        (lowest-next (refusalAt ltlRules (numbersOf ns)) n (all n (omega arith)) (node-none ltlRules (numbersOf ns) n (sound n (omega arith))))
+
+pub emitted-accepted : (t : List ℕ) → pslRefusal t ≡ none → emittedSize (formulaOf t) ≤ 4096 → ltlRefusal (emitted (formulaOf t)) ≡ none
+unfolding emitted
+emitted-accepted t e few =
+    let f = formulaOf t in
+    let n = length-walk f 1 1 (trueN ∷ notN 0 ∷ []) in
+    fine-table (emittedNodes f) (fineF f (signals-low t e) 1 1 (trueN ∷ notN 0 ∷ []) (omega arith) (omega arith) start) (omega arith) (omega arith)
+  where
+    start : Fine (trueN ∷ notN 0 ∷ [])
+    start = fine-more (trueN ∷ []) (notN 0) (fine-more [] trueN (record { passes = λ i h. absurd (omega arith) }) (omega arith, blank, blank)) (omega arith, named (omega arith), blank)

@@ -1,0 +1,57 @@
+-- What each writer of an answer's text gives.
+use mathlib.Core.Path.{_≡_, refl, ap, sym, subst, _∙_}
+use mathlib.Core.List.{List, [], _∷_, _++_, append-assoc, append-nil}
+use Prim.Native.Nat.{ℕ, zero, suc, _+_, _*_, _<_, _≤_}
+use native.Mathlib.Omega.{arith}
+use native.Mathlib.Numerals.{add-one}
+use lib.ListN.{length}
+use Rattle.trace.specs.declared.Refusal.{Refusal}
+use Rattle.table.specs.Node.{count, nodeAt}
+use Rattle.verdict.specs.declared.Verdict.{Verdict}
+use Rattle.lines.specs.Text.{text}
+use Rattle.lines.specs.Spelling.{digits, nodeLine}
+use Rattle.lines.specs.Inner.Writer.{Wrote}
+use Rattle.lines.proofs.WriterLaw.{wrote-join}
+use Rattle.run.specs.Printed.{refusedText, verdictText, traceText, nodeLines, tableText}
+
+refused-bytes : (line : ℕ) (x : Refusal) → refusedText line x ≡ text "(refused " ++ (digits line ++ (text " " ++ (digits (x .0) ++ text ")\n")))
+unfolding refusedText
+refused-bytes line x = simp append-assoc
+
+pub refused-wrote : {l₀ l₁ l₂ l₃ l₄ l₅ : List ℕ} {at a b c d e : ℕ} (line : ℕ) (x : Refusal) → Wrote (text "(refused ") l₀ l₁ at a → Wrote (digits line) l₁ l₂ a b
+    → Wrote (text " ") l₂ l₃ b c → Wrote (digits (x .0)) l₃ l₄ c d → Wrote (text ")\n") l₄ l₅ d e → Wrote (refusedText line x) l₀ l₅ at e
+refused-wrote {l₀} {l₅ = l₅} {at = at} {e = e} line x p q r s t =
+    subst (λ (w : List ℕ). Wrote w l₀ l₅ at e) (sym (refused-bytes line x)) (wrote-join p (wrote-join q (wrote-join r (wrote-join s t))))
+
+trace-bytes : (i : ℕ) (v w : Verdict)
+    → traceText i v w ≡ text "(trace " ++ (digits i ++ (text " psl " ++ (verdictText v ++ (text " ltl " ++ (verdictText w ++ text ")\n")))))
+unfolding traceText
+trace-bytes i v w = simp append-assoc
+
+pub trace-wrote : {l₀ l₁ l₂ l₃ l₄ l₅ l₆ l₇ : List ℕ} {at a b c d e f g : ℕ} (i : ℕ) (v w : Verdict) → Wrote (text "(trace ") l₀ l₁ at a
+    → Wrote (digits i) l₁ l₂ a b → Wrote (text " psl ") l₂ l₃ b c → Wrote (verdictText v) l₃ l₄ c d → Wrote (text " ltl ") l₄ l₅ d e
+    → Wrote (verdictText w) l₅ l₆ e f → Wrote (text ")\n") l₆ l₇ f g → Wrote (traceText i v w) l₀ l₇ at g
+trace-wrote {l₀} {l₇ = l₇} {at = at} {g = g} i v w p q r s t u z =
+    subst (λ (y : List ℕ). Wrote y l₀ l₇ at g) (sym (trace-bytes i v w))
+    (wrote-join p (wrote-join q (wrote-join r (wrote-join s (wrote-join t (wrote-join u z))))))
+
+-- ── Tables ──
+
+pub no-lines : {l : List ℕ} {at : ℕ} (t : List ℕ) → Wrote (nodeLines t 0) l l at at
+unfolding nodeLines
+no-lines t = record { is = refl; ends = omega arith }
+
+pub line-more : {l m n : List ℕ} {a b c : ℕ} (t : List ℕ) (i j : ℕ) → i ≡ j → Wrote (nodeLines t i) l m a b → Wrote (nodeLine j (nodeAt t i)) m n b c
+    → Wrote (nodeLines t (i + 1)) l n a c
+unfolding nodeLines
+line-more {l} {m} {n} {a} {b} {c} t i j e p q =
+    subst (λ (k : ℕ). Wrote (nodeLines t k) l n a c) (sym (add-one i))
+    (wrote-join p (subst (λ (k : ℕ). Wrote (nodeLine k (nodeAt t i)) m n b c) (sym e) q))
+
+pub table-wrote : {l₀ l₁ l₂ l₃ l₄ : List ℕ} {at a b c d : ℕ} (t : List ℕ) (i : ℕ) → i ≡ count t → Wrote (text "(ltl ") l₀ l₁ at a → Wrote (digits (count t)) l₁ l₂ a b
+    → Wrote (text ")\n") l₂ l₃ b c → Wrote (nodeLines t i) l₃ l₄ c d → Wrote (tableText t) l₀ l₄ at d
+unfolding tableText
+table-wrote {l₀} {l₃ = l₃} {l₄ = l₄} {at = at} {c = c} {d = d} t i e p q r s =
+    let head = wrote-join p (wrote-join q r) in
+    let all = wrote-join head (subst (λ (k : ℕ). Wrote (nodeLines t k) l₃ l₄ c d) e s) in
+    subst (λ (y : List ℕ). Wrote y l₀ l₄ at d) (simp append-assoc) all

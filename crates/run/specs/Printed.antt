@@ -1,0 +1,47 @@
+-- What a run prints. Each line ends with byte 10.
+use mathlib.Core.List.{List, [], _∷_, _++_}
+use Prim.Native.Nat.{ℕ, zero, suc, _*_, _-_}
+use lib.ListN.{take}
+use Rattle.trace.specs.declared.Refusal.{Refusal}
+use Rattle.table.specs.Node.{count, nodeAt}
+use Rattle.verdict.specs.declared.Verdict.{Verdict}
+use Rattle.verdict.specs.declared.Verdict.the-variants as Verdict
+use Rattle.lines.specs.Text.{text}
+use Rattle.lines.specs.Spelling.{digits, brackets, nodeLine}
+use Rattle.run.specs.declared.First.{First}
+use Rattle.run.specs.declared.First.the-variants as First
+use Rattle.run.specs.declared.Later.{Later}
+use Rattle.run.specs.declared.Later.the-variants as Later
+
+-- `(refused L R)`: the line's number and the refusal.
+unfoldable pub refusedText : ℕ → Refusal → List ℕ
+refusedText line x = brackets (text "refused" ∷ digits line ∷ digits (x .0) ∷ []) ++ text "\n"
+
+-- A verdict; `none` where it is refused.
+unfoldable pub verdictText : Verdict → List ℕ
+verdictText Verdict.Yes = text "yes"
+verdictText Verdict.No = text "no"
+verdictText (Verdict.Refused x) = text "none"
+
+-- `(trace I psl V ltl W)`: the trace line's number and both verdicts.
+unfoldable pub traceText : ℕ → Verdict → Verdict → List ℕ
+traceText i v w = brackets (text "trace" ∷ digits i ∷ text "psl" ∷ verdictText v ∷ text "ltl" ∷ verdictText w ∷ []) ++ text "\n"
+
+-- The lines of the first k nodes of a table.
+unfoldable pub nodeLines : List ℕ → ℕ → List ℕ
+nodeLines t zero = []
+nodeLines t (suc k) = nodeLines t k ++ nodeLine k (nodeAt t k)
+
+-- `(ltl S)` and the lines of all nodes.
+unfoldable pub tableText : List ℕ → List ℕ
+tableText t = (brackets (text "ltl" ∷ digits (count t) ∷ []) ++ text "\n") ++ nodeLines t (count t)
+
+-- The answer to line 1, with the LTL table at the front of a list.
+abbrev pub firstText : First → List ℕ → List ℕ
+firstText (First.Tables n s) m = tableText (take (3 * s) m)
+firstText (First.Refused x) m = refusedText 1 x
+
+-- The answer to line `line`, above 1: it is trace line `line - 1`.
+abbrev pub laterText : ℕ → Later → List ℕ
+laterText line (Later.Verdicts v w) = traceText (line - 1) v w
+laterText line (Later.Refused x) = refusedText line x
