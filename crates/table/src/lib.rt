@@ -21,43 +21,43 @@ pub const SIGNALS: u16 = 32;
 pub const KINDS: u16 = 11;
 
 // The mask of a place that holds an operand.
-pub const ONES: u16 = 65535;
+const ONES: u16 = 65535;
 
 // What a place of a node holds: the number of an operand, Boolean or not, or else a number below the limit. Data and not an enum, so that
 // the test of a node takes no branch on its kind; the mask, all ones for an operand, is there for the same reason.
 pub struct Place {
-    pub operand: bool,
-    pub boolean: bool,
     pub mask: u16,
     pub limit: u16,
+    pub operand: bool,
+    pub boolean: bool,
 }
 
 pub const UNUSED: Place = Place {
-    operand: false,
-    boolean: false,
     mask: 0,
     limit: 1,
+    operand: false,
+    boolean: false,
 };
 
 pub const SIGNAL: Place = Place {
-    operand: false,
-    boolean: false,
     mask: 0,
     limit: SIGNALS,
+    operand: false,
+    boolean: false,
 };
 
 pub const BOOLEAN: Place = Place {
-    operand: true,
-    boolean: true,
     mask: ONES,
     limit: 0,
+    operand: true,
+    boolean: true,
 };
 
 pub const FORMULA: Place = Place {
-    operand: true,
-    boolean: false,
     mask: ONES,
     limit: 0,
+    operand: true,
+    boolean: false,
 };
 
 // The left and the right place of a kind.
