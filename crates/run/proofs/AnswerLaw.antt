@@ -1,5 +1,5 @@
 -- The bytes of a line that are kept are answered as the whole line is; an answer's tables have room.
-use mathlib.Core.Path.{_≡_, refl, ap, sym, subst, _∙_}
+use mathlib.Core.Path.{_≡_, refl, subst}
 use mathlib.Core.Bool.{Bool, true, false}
 use mathlib.Core.Option.{Option, none, some}
 use mathlib.Core.List.{List}
@@ -22,7 +22,6 @@ use Rattle.lines.specs.FormulaAnswer.{FormulaAnswer}
 use Rattle.lines.specs.TraceAnswer.{TraceAnswer}
 use Rattle.lines.specs.declared.formula.Line.{Line}
 use Rattle.lines.specs.declared.formula.Line.the-variants as Line
-use Rattle.lines.specs.declared.traces.TraceLine.{TraceLine}
 use Rattle.run.specs.Run.{AfterReading, FirstAnswer, LaterAnswer}
 use Rattle.run.specs.Progress.{keptBytes}
 use Rattle.run.specs.declared.First.{First}

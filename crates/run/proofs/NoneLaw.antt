@@ -7,7 +7,7 @@ use Prim.Native.Nat.{ℕ, _+_, _*_, _≤_, _<_}
 use native.Mathlib.Omega.{arith}
 use borrow.Author.Tests.{ltb-true, ltb-false}
 use lib.Dec.{ltb}
-use lib.ListN.{length, take, drop, replicate}
+use lib.ListN.{length, take, drop}
 use lib.Seq.{take-at, length-take-le}
 use Rattle.trace.specs.Letter.{mostLetters}
 use Rattle.trace.specs.Moments.{size}
@@ -20,13 +20,13 @@ use Rattle.psl.specs.Check.{pslRefusal}
 use Rattle.ltl.specs.Meaning.{LtlHoldsOn}
 use Rattle.ltl.specs.Table.{treeOf}
 use Rattle.ltl.specs.Check.{ltlRefusal}
-use Rattle.translate.specs.Emitted.{emitted, emittedSize}
-use Rattle.translate.specs.Answer.{translateRefusal, left, Delivers}
+use Rattle.translate.specs.Emitted.{emitted}
+use Rattle.translate.specs.Answer.{translateRefusal, Delivers}
 use Rattle.translate.specs.declared.Translation.{Translation}
 use Rattle.translate.specs.declared.Translation.the-variants as Translation
 use Rattle.translate.proofs.WalkLaw.{length-emitted}
 use Rattle.translate.proofs.DeliversLaw.{size-most}
-use Rattle.verdict.specs.Verdict.{Judges, PslJudges, LtlJudges, pslVerdictRefusal, ltlVerdictRefusal}
+use Rattle.verdict.specs.Verdict.{Judges}
 use Rattle.verdict.specs.declared.Verdict.{Verdict}
 use Rattle.verdict.specs.declared.Verdict.the-variants as Verdict
 use Rattle.verdict.proofs.JudgesLaw.{psl-fine, ltl-fine, ltl-empty}
@@ -38,7 +38,7 @@ use Rattle.lines.specs.declared.formula.Line.{Line}
 use Rattle.lines.specs.declared.formula.Line.the-variants as Line
 use Rattle.lines.specs.declared.traces.TraceLine.{TraceLine}
 use Rattle.lines.specs.declared.traces.TraceLine.the-variants as TraceLine
-use Rattle.run.specs.Run.{AfterReading, FirstAnswer, AfterTrace, room, LaterAnswer}
+use Rattle.run.specs.Run.{AfterReading, LaterAnswer}
 use Rattle.run.specs.Whole.{Begins, Decided, Judged, NoneIfEmpty}
 use Rattle.run.specs.declared.First.{First}
 use Rattle.run.specs.declared.First.the-variants as First
