@@ -1,5 +1,5 @@
 -- The bytes of a line that are kept are answered as the whole line is; an answer's tables have room.
-use mathlib.Core.Path.{_≡_, refl, ap, sym, subst, _∙_}
+use mathlib.Core.Path.{_≡_, refl, subst}
 use mathlib.Core.Bool.{Bool, true, false}
 use mathlib.Core.Option.{Option, none, some}
 use mathlib.Core.List.{List}
@@ -22,7 +22,6 @@ use Rattle.lines.specs.FormulaAnswer.{FormulaAnswer}
 use Rattle.lines.specs.TraceAnswer.{TraceAnswer}
 use Rattle.lines.specs.declared.formula.Line.{Line}
 use Rattle.lines.specs.declared.formula.Line.the-variants as Line
-use Rattle.lines.specs.declared.traces.TraceLine.{TraceLine}
 use Rattle.run.specs.Run.{AfterReading, FirstAnswer, LaterAnswer}
 use Rattle.run.specs.Progress.{keptBytes}
 use Rattle.run.specs.declared.First.{First}
@@ -50,16 +49,19 @@ later-kept {psl} {ltl} {r} s (a, l, m, f, t) =
 
 -- ── The tables ──
 
-size-room : (p : Option Refusal) (b : Bool) (x : Refusal) (k s : ℕ) → Translation.Nodes s ≡ answer (orElse p (unless b x none)) k → (b ≡ true) × (s ≡ k)
-size-room (some y) b x k s e = let z : _≡_ {A = ℕ} 0 1 = cc in absurd (omega arith)
-size-room none true x k s e = (refl, cc)
-size-room none false x k s e = let z : _≡_ {A = ℕ} 0 1 = cc in absurd (omega arith)
+-- An answer that is a size: nothing is refused.
+told-size : (p : Option Refusal) (b : Bool) (x : Refusal) (k s : ℕ) → Translation.Nodes s ≡ answer (orElse p (unless b x none)) k → (p ≡ none) × (b ≡ true) × (s ≡ k)
+told-size (some y) b x k s e = let z : _≡_ {A = ℕ} 0 1 = cc in absurd (omega arith)
+told-size none true x k s e = (refl, refl, cc)
+told-size none false x k s e = let z : _≡_ {A = ℕ} 0 1 = cc in absurd (omega arith)
 
-size-few : {t l m : List ℕ} {s : ℕ} → Delivers t l (Translation.Nodes s) m → 3 * s ≤ length l
-unfolding translateRefusal
-size-few {t} {l} {m} {s} d =
-    let (b, e) = size-room (pslRefusal t) (leb (3 * emittedSize (formulaOf t)) (length l)) (refused 10) (emittedSize (formulaOf t)) s (d .answers) in
-    omega (arith, leb-true (3 * emittedSize (formulaOf t)) (length l) b, e)
+module _ {t l m : List ℕ} {s : ℕ} (d : Delivers t l (Translation.Nodes s) m) where
+  pub delivered : (pslRefusal t ≡ none) × (leb (3 * emittedSize (formulaOf t)) (length l) ≡ true) × (s ≡ emittedSize (formulaOf t))
+  unfolding translateRefusal
+  delivered = told-size (pslRefusal t) (leb (3 * emittedSize (formulaOf t)) (length l)) (refused 10) (emittedSize (formulaOf t)) s (d .answers)
+
+  size-few : 3 * s ≤ length l
+  size-few = let (_, b, e) = delivered in omega (arith, leb-true (3 * emittedSize (formulaOf t)) (length l) b, e)
 
 after-few : {s l l′ : List ℕ} (m m′ : List ℕ) (n z : ℕ) (a : Line) → FormulaAnswer s l a l′ → AfterReading a l′ m m′ (First.Tables n z)
     → (n ≤ 1024) × (3 * n ≤ length l′) × (3 * z ≤ length m)

@@ -3,7 +3,7 @@ use mathlib.Core.Path.{_≡_, refl, ap, sym, subst, _∙_}
 use mathlib.Core.Bool.{Bool, true, false}
 use mathlib.Core.List.{List, [], _∷_}
 use mathlib.Core.Option.{none}
-use Prim.Native.Nat.{ℕ, zero, suc, _+_, _-_, _*_, _/_, _%_, _<_, _≤_}
+use Prim.Native.Nat.{ℕ, zero, suc, _+_, _-_, _/_, _%_, _<_, _≤_}
 use native.Mathlib.Omega.{arith}
 use native.Mathlib.Decide.{decLt}
 use native.Mathlib.Numerals.{add-one}
@@ -11,12 +11,12 @@ use borrow.Author.Tests.{eq-eqb, lt-ltb, le-ltb, le-leb}
 use lib.ListN.{length, getD, List·getD-append}
 use lib.Seq.{getD-at}
 use Rattle.trace.specs.Letter.{signals}
-use Rattle.table.specs.Node.{Node, node, nodesOf, numbersOf, count, kindAt, leftAt, rightAt, nodeAt, _▸_, last}
+use Rattle.table.specs.Node.{Node, node, numbersOf, count, kindAt, leftAt, rightAt, _▸_, last}
 use Rattle.table.specs.Check.{operand, unused, signal, shapeOf, isBoolean, lengthFits, lowest, tableRefusal, refusalAt}
 use Rattle.table.proofs.NodeLaw.{nodes-numbers, length-numbers, length-more, node-at}
 use Rattle.table.proofs.CheckLaw.{Fits, Sound, node-none, lowest-zero, lowest-next, refused-none, table-sound, kind-in}
 use Rattle.table.proofs.KindLaw.{_⨾_, each}
-use Rattle.psl.specs.Formula.{BoolExpr, btrue, var, bnot, band, Formula, weak, strong, fnot, fand, next, until, abort, weighB, weigh}
+use Rattle.psl.specs.Formula.{BoolExpr, btrue, var, bnot, band, Formula, weak, strong, fnot, fand, next, until, abort}
 use Rattle.psl.specs.Table.{Part, boolean, formula, asBoolean, asFormula, partOf, formulaOf}
 use Rattle.psl.specs.Parts.{partAt}
 use Rattle.psl.specs.Check.{pslRules, pslRefusal}
@@ -24,8 +24,8 @@ use Rattle.psl.proofs.CheckLaw.{psl-table}
 use Rattle.psl.proofs.PartLaw.{part-root, part-node}
 use Rattle.psl.proofs.AcceptedLaw.{some-node}
 use Rattle.ltl.specs.Check.{ltlRules, ltlRefusal}
-use Rattle.translate.specs.Emitted.{trueN, varN, notN, andN, orN, nextN, untilN, walkB, gate, literal, walk, emittedNodes, emitted, emittedSize, adds}
-use Rattle.translate.proofs.WalkLaw.{length-walkB, length-walk, length-emitted}
+use Rattle.translate.specs.Emitted.{trueN, varN, notN, andN, orN, nextN, untilN, walkB, gate, literal, walk, emittedNodes, emitted, emittedSize}
+use Rattle.translate.proofs.WalkLaw.{length-walkB, length-walk}
 use Rattle.translate.proofs.ArmLaw.{weightB-pos, weight-pos}
 
 -- ── The signals of a formula ──

@@ -5,3 +5,4 @@ pub mod AnswerLaw
 pub mod ProgressLaw
 pub mod StepLaw
 pub mod EmittedLaw
+pub mod NoneLaw

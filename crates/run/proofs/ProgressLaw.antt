@@ -2,20 +2,20 @@
 use mathlib.Core.Path.{_≡_, refl, ap, sym, subst, _∙_}
 use mathlib.Core.Bool.{Bool, true, false}
 use mathlib.Core.List.{List, [], _∷_, _++_, append-assoc, append-nil}
-use Prim.Native.Nat.{ℕ, zero, suc, _+_, _*_, _<_, _≤_}
+use Prim.Native.Nat.{ℕ, suc, _+_, _*_, _<_, _≤_}
 use native.Mathlib.Omega.{arith}
 use native.Mathlib.Numerals.{add-one}
 use borrow.Author.Tests.{ltb-true, ltb-false, ne-eqb}
 use lib.Dec.{ltb}
-use lib.ListN.{length, take, set, getD, length-append, length-take}
-use lib.Seq.{sets, sets-eq, take-at, take-all, take-suc, take-suc-set, take-append-le, length-take-le}
+use lib.ListN.{length, take, length-append, length-take}
+use lib.Seq.{sets-eq, take-at, take-all, take-suc-set, take-append-le, length-take-le}
 use Rattle.table.specs.Node.{_▸_}
 use Rattle.lines.specs.Inner.Writer.{Wrote}
 use Rattle.run.specs.Run.{FirstAnswer, LaterAnswer}
-use Rattle.run.specs.Printed.{refusedText, tableText, firstText, laterText}
-use Rattle.run.specs.Whole.{endedAfter, openAfter, endedLines, openLine, inputLines, Begins, LaterLines, Continues, Prints, Runs}
-use Rattle.run.specs.Progress.{keptBytes, much, longest, Remembers, Told, At, Within}
-use Rattle.run.specs.Inner.{FirstDone, LaterDone, LineDone, Keeps, Same}
+use Rattle.run.specs.Printed.{tableText, firstText, laterText}
+use Rattle.run.specs.Whole.{endedAfter, openAfter, endedLines, openLine, inputLines, Begins, LaterLines, Prints, Runs}
+use Rattle.run.specs.Progress.{keptBytes, Remembers, Told, At}
+use Rattle.run.specs.Inner.{FirstDone, LaterDone, Keeps, Same}
 use Rattle.run.specs.declared.First.{First}
 use Rattle.run.specs.declared.First.the-variants as First
 use Rattle.run.specs.declared.Later.{Later}

@@ -2,19 +2,19 @@
 use mathlib.Core.Path.{_≡_, refl, ap, sym, subst, _∙_}
 use mathlib.Core.Bool.{Bool, true, false}
 use mathlib.Core.List.{List, [], _∷_, _++_, append-assoc, append-nil}
-use Prim.Native.Nat.{ℕ, suc, _+_, _*_, _-_, _<_, _≤_}
+use Prim.Native.Nat.{ℕ, _+_, _*_, _-_, _<_, _≤_}
 use native.Mathlib.Omega.{arith}
 use native.Mathlib.Numerals.{add-one}
 use borrow.Author.Tests.{ltb-true, ltb-false}
 use lib.Dec.{ltb}
-use lib.ListN.{length, take, set, getD, length-set}
+use lib.ListN.{length, take, getD, length-set}
 use lib.Seq.{take-suc, take-all}
 use Rattle.trace.specs.declared.Refusal.{Refusal}
 use Rattle.table.specs.Node.{_▸_}
 use Rattle.verdict.specs.declared.Verdict.{Verdict}
 use Rattle.lines.specs.Inner.Writer.{Wrote}
 use Rattle.run.specs.Run.{FirstAnswer, LaterAnswer}
-use Rattle.run.specs.Printed.{refusedText, traceText, tableText, firstText, laterText}
+use Rattle.run.specs.Printed.{refusedText, traceText, tableText}
 use Rattle.run.specs.Progress.{much, mostLines, At, Within, Stops, Stepped, Ended}
 use Rattle.run.specs.Inner.{FirstDone, LaterDone, LineDone, Keeps, Same, Passed}
 use Rattle.run.specs.declared.First.{First}

@@ -6,13 +6,18 @@ use Prim.Native.Nat.{ℕ, suc, _*_}
 use lib.Dec.{eqb}
 use lib.ListN.{length, take}
 use Rattle.table.specs.Node.{_▸_}
+use Rattle.table.specs.Answer.{refused}
 use Rattle.psl.specs.Check.{pslRules}
 use Rattle.ltl.specs.Check.{ltlRules}
+use Rattle.verdict.specs.declared.Verdict.{Verdict}
+use Rattle.verdict.specs.declared.Verdict.the-variants as Verdict
+use Rattle.lines.specs.Spelling.{traceLine}
 use Rattle.run.specs.Run.{FirstAnswer, LaterAnswer}
 use Rattle.run.specs.Printed.{refusedText, tableText, laterText}
 use Rattle.run.specs.declared.First.{First}
 use Rattle.run.specs.declared.First.the-variants as First
 use Rattle.run.specs.declared.Later.{Later}
+use Rattle.run.specs.declared.Later.the-variants as Later
 
 -- ── The lines of an input ──
 
@@ -70,3 +75,23 @@ Prints (line ∷ ls) out = (r : First) × (sheet : List ℕ) × (table : List �
 -- The run on an input prints `out`.
 abbrev pub Runs : List ℕ → List ℕ → Type 0
 Runs input out = Prints (inputLines input) out
+
+-- ── The verdicts that are printed ──
+
+-- Yes or no.
+abbrev pub Decided : Verdict → Type 0
+Decided Verdict.Yes = Unit {0}
+Decided Verdict.No = Unit {0}
+Decided (Verdict.Refused x) = ⊥
+
+-- The verdicts on a trace line: the PSL verdict v is yes or no, and the LTL verdict w too, but for the line of the empty trace.
+pub record Judged (line : List ℕ) (v w : Verdict) : Type 0 where
+  pub psl : Decided v
+  pub ltl : (line ≡ traceLine [] [] → ⊥) → Decided w
+  pub empty : line ≡ traceLine [] [] → w ≡ Verdict.Refused (refused 16)
+
+-- What holds of every trace line of a run that goes on after line 1; so `none` is printed for the empty trace, and for it alone.
+abbrev pub NoneIfEmpty : Type 0
+NoneIfEmpty =
+    (first sheet table line : List ℕ) (n s : ℕ) (v w : Verdict) → Begins first (First.Tables n s) sheet table
+    → LaterAnswer line (take (3 * n) sheet) (take (3 * s) table) (Later.Verdicts v w) → Judged line v w

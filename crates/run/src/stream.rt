@@ -39,6 +39,7 @@ pub struct State {
     pub more: bool,
 }
 
+// Line 1: its answer's text goes behind what is gathered.
 fn answer_first(
     line: &[u8],
     sheet: &mut [u16],
