@@ -38,7 +38,7 @@ use Rattle.lines.specs.declared.formula.Line.{Line}
 use Rattle.lines.specs.declared.formula.Line.the-variants as Line
 use Rattle.lines.specs.declared.traces.TraceLine.{TraceLine}
 use Rattle.lines.specs.declared.traces.TraceLine.the-variants as TraceLine
-use Rattle.run.specs.Run.{AfterReading, LaterAnswer}
+use Rattle.run.specs.Run.{AfterReading, FirstAnswer, LaterAnswer, Accepted}
 use Rattle.run.specs.Whole.{Begins, Decided, Judged, NoneIfEmpty}
 use Rattle.run.specs.declared.First.{First}
 use Rattle.run.specs.declared.First.the-variants as First
@@ -49,10 +49,6 @@ use Rattle.run.proofs.EmittedLaw.{emitted-accepted}
 use Rattle.run.proofs.RunLaw.{letters-few}
 
 -- ── The tables of line 1 ──
-
--- Both are accepted.
-abbrev Accepted : List ℕ → List ℕ → Type 0
-Accepted psl ltl = (pslRefusal psl ≡ none) × (ltlRefusal ltl ≡ none)
 
 delivered-accepted : (t l m : List ℕ) (s : ℕ) → Delivers t l (Translation.Nodes s) m → Accepted t (take (3 * s) m)
 unfolding translateRefusal
@@ -74,8 +70,11 @@ after-accepted {l′ = l′} m m′ n z (Line.Nodes n′) f (Translation.Nodes z
     subst (λ (i : ℕ). Accepted (take (3 * i) l′) (take (3 * z) m′)) p
     (subst (λ (j : ℕ). Accepted (take (3 * n′) l′) (take (3 * j) m′)) q (delivered-accepted (take (3 * n′) l′) m m′ z′ d))
 
+pub first-accepted : (s l m l′ m′ : List ℕ) (n z : ℕ) → FirstAnswer s l m (First.Tables n z) l′ m′ → Accepted (take (3 * n) l′) (take (3 * z) m′)
+first-accepted s l m l′ m′ n z (a, f, t) = after-accepted m m′ n z a f t
+
 tables-accepted : {line sheet table : List ℕ} {n z : ℕ} → Begins line (First.Tables n z) sheet table → Accepted (take (3 * n) sheet) (take (3 * z) table)
-tables-accepted {table = table} {n = n} {z = z} b = let (a, f, t) = b .answers in after-accepted (b .table₀) table n z a f t
+tables-accepted {line} {sheet} {table} {n} {z} b = first-accepted line (b .sheet₀) (b .table₀) sheet table n z (b .answers)
 
 -- ── The letters of a trace line ──
 

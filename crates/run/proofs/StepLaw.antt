@@ -13,9 +13,9 @@ use Rattle.trace.specs.declared.Refusal.{Refusal}
 use Rattle.table.specs.Node.{_▸_}
 use Rattle.verdict.specs.declared.Verdict.{Verdict}
 use Rattle.lines.specs.Inner.Writer.{Wrote}
-use Rattle.run.specs.Run.{FirstAnswer, LaterAnswer}
+use Rattle.run.specs.Run.{FirstAnswer, LaterAnswer, Accepted}
 use Rattle.run.specs.Printed.{refusedText, traceText, tableText}
-use Rattle.run.specs.Progress.{much, mostLines, At, Within, Stops, Stepped, Ended}
+use Rattle.run.specs.Progress.{much, mostLines, Remembers, At, Within, Stops, Stepped, Ended}
 use Rattle.run.specs.Inner.{FirstDone, LaterDone, LineDone, Keeps, Same, Passed}
 use Rattle.run.specs.declared.First.{First}
 use Rattle.run.specs.declared.First.the-variants as First
@@ -23,14 +23,15 @@ use Rattle.run.specs.declared.Later.{Later}
 use Rattle.run.specs.declared.Later.the-variants as Later
 use Rattle.run.specs.declared.stream.State.{State}
 use Rattle.run.proofs.AnswerLaw.{first-few}
+use Rattle.run.proofs.NoneLaw.{first-accepted}
 use Rattle.run.proofs.ProgressLaw.{at-same, at-byte, at-first, at-later, at-end-empty, at-end-open, at-written}
 
 -- ── Bounds ──
 
 -- The same state, with other bytes gathered.
 pub within-as : {most most′ : ℕ} {line sheet table out : List ℕ} (s s′ : State) → Within most s line sheet table out → s′ .number ≡ s .number → s′ .filled ≡ s .filled
-    → s′ .nodes ≡ s .nodes → s′ .size ≡ s .size → s′ .gathered ≤ most′ → Within most′ s′ line sheet table out
-within-as s s′ w number filled nodes size g =
+    → s′ .nodes ≡ s .nodes → s′ .size ≡ s .size → (s′ .more ≡ true → s .more ≡ true) → s′ .gathered ≤ most′ → Within most′ s′ line sheet table out
+within-as {sheet = sheet} {table = table} s s′ w number filled nodes size over g =
     record {
       lineRoom = w .lineRoom;
       sheetRoom = w .sheetRoom;
@@ -41,11 +42,19 @@ within-as s s′ w number filled nodes size g =
       size = omega (arith, w .size);
       gathered = g;
       numbered = omega (arith, w .numbered);
+      accepted = λ h m. rw (nodes, size) (w .accepted (omega (arith, number)) (over m));
     }
 
 pub within-same : {most most′ : ℕ} {line sheet table out : List ℕ} (s s′ : State) → Within most s line sheet table out → Same s s′ → s′ .gathered ≤ most′
     → Within most′ s′ line sheet table out
-within-same s s′ w e g = within-as s s′ w (e .number) (e .filled) (e .nodes) (e .size) g
+within-same s s′ w e g = within-as s s′ w (e .number) (e .filled) (e .nodes) (e .size) (e .over) g
+
+-- The run is over.
+abbrev pub ended : State → State
+ended s = record { number = s .number; filled = s .filled; nodes = s .nodes; size = s .size; gathered = s .gathered; taken = s .taken; more = false }
+
+pub within-ended : {most : ℕ} {line sheet table out : List ℕ} (s : State) → Within most s line sheet table out → Within most (ended s) line sheet table out
+within-ended s w = within-as s (ended s) w refl refl refl refl (λ m. let z : _≡_ {A = ℕ} 0 1 = cc in absurd (omega arith)) (w .gathered)
 
 -- ── Answers ──
 
@@ -102,6 +111,15 @@ module _ {line psl ltl out out′ : List ℕ} (r : Later) (a : LaterAnswer line 
   later-judged v w e t =
       record { answer = Later.Verdicts v w; answers = subst (LaterAnswer line psl ltl) e a; writes = t; short = omega arith }
 
+pub goes-on : (s : State) → s .more ≡ false → s .more ≡ true → ⊥
+goes-on s p q = let z : _≡_ {A = ℕ} 0 1 = cc in omega arith
+
+-- After line 1 the run goes on only with accepted tables.
+first-goes : {line sheet table sheet′ table′ : List ℕ} (r : First) → FirstAnswer line sheet table r sheet′ table′ → (s : State) → Remembers r s → s .more ≡ true
+    → Accepted (take (3 * s .nodes) sheet′) (take (3 * s .size) table′)
+first-goes (First.Refused x) a s over m = absurd (goes-on s over m)
+first-goes {line} {sheet} {table} {sheet′} {table′} (First.Tables n z) a s (_, nodes, size) m = rw (nodes, size) (first-accepted line sheet table sheet′ table′ n z a)
+
 -- ── A line's end ──
 
 -- The state after a later line.
@@ -123,6 +141,7 @@ module _ {line sheet table out : List ℕ} (s : State) (b : Within much s line s
           size = d .size;
           gathered = omega (arith, d .short, b .gathered);
           numbered = omega (arith, d .number);
+          accepted = λ _. first-goes (d .answer) (d .answers) s′ (d .remembers);
         };
         number = omega (arith, d .number);
         taken = d .taken;
@@ -144,6 +163,7 @@ module _ {line sheet table out : List ℕ} (s : State) (b : Within much s line s
           size = b .size;
           gathered = omega (arith, d .short, b .gathered);
           numbered = omega arith;
+          accepted = λ _ _. b .accepted h m;
         };
         number = refl;
         taken = refl;
@@ -155,9 +175,6 @@ module _ {line sheet table out : List ℕ} (s : State) (b : Within much s line s
 pub stops-test : (b : Bool) (s : State) → s .more ≡ true → ltb much (s .gathered) ≡ b → Stops s b
 stops-test true s m e = λ _. ltb-true much (s .gathered) e
 stops-test false s m e = (m, ltb-false much (s .gathered) e)
-
-pub goes-on : (s : State) → s .more ≡ false → s .more ≡ true → ⊥
-goes-on s p q = let z : _≡_ {A = ℕ} 0 1 = cc in omega arith
 
 -- The state with a byte more taken, and with it a count of kept bytes.
 abbrev pub taking : State → State
@@ -213,6 +230,7 @@ module _ {block line₀ sheet₀ table₀ out₀ line sheet table out : List ℕ
           size = w .size;
           gathered = w .gathered;
           numbered = w .numbered;
+          accepted = w .accepted;
         };
         more = g .more;
         from = omega (arith, g .from);
@@ -244,7 +262,7 @@ module _ {block line₀ sheet₀ table₀ out₀ line sheet table out : List ℕ
     pub line-goes : Stops r′ false → Going block line₀ sheet₀ table₀ out₀ s line sheet′ table′ out′ r′
     line-goes (m, few) =
         record {
-          within = within-as r′ r′ (d .within) refl refl refl refl few;
+          within = within-as r′ r′ (d .within) refl refl refl refl (λ m. m) few;
           more = m;
           from = omega (arith, d .taken, g .from);
           upto = omega (arith, d .taken);
@@ -256,7 +274,7 @@ pub going-end : {block line₀ sheet₀ table₀ out₀ line sheet table out : L
     → Going block line₀ sheet₀ table₀ out₀ s line sheet table out r → length block ≤ r .taken → Stepped block line₀ sheet₀ table₀ out₀ s r line sheet table out
 going-end r g h =
     record {
-      within = within-as r r (g .within) refl refl refl refl (omega (arith, g .within .gathered));
+      within = within-as r r (g .within) refl refl refl refl (λ m. m) (omega (arith, g .within .gathered));
       goes = λ low. omega (arith, low);
       upto = g .upto;
       number = g .number;
@@ -269,7 +287,7 @@ going-end r g h =
 pub nothing-open : {line sheet table out : List ℕ} (s : State) → Within much s line sheet table out → s .filled ≡ 0 → 1 < s .number
     → Ended line sheet table out s s sheet table out
 nothing-open s w f h =
-    record { within = within-as s s w refl refl refl refl (omega (arith, w .gathered)); tells = λ read done a. at-end-empty s a f h }
+    record { within = within-as s s w refl refl refl refl (λ m. m) (omega (arith, w .gathered)); tells = λ read done a. at-end-empty s a f h }
 
 pub line-open : {line sheet table out sheet′ table′ out′ : List ℕ} (s s′ : State) → Within much s line sheet table out → (s .filled ≡ 0 → s .number ≤ 1)
     → LineDone line sheet table out s s′ sheet′ table′ out′ → Ended line sheet table out s s′ sheet′ table′ out′
@@ -294,7 +312,7 @@ pub pass-start : {block line sheet table out : List ℕ} (s : State) → Within 
     → Passing block line sheet table out (anew s) line sheet table out (anew s)
 pass-start {line = line} {sheet} {table} {out} s w m n =
     record {
-      within = within-as s (anew s) w refl refl refl refl (w .gathered);
+      within = within-as s (anew s) w refl refl refl refl (λ m. m) (w .gathered);
       more = m;
       upto = omega arith;
       number = n;

@@ -7,6 +7,7 @@ use lib.ListN.{length, take}
 use Rattle.psl.specs.Check.{pslRules}
 use Rattle.ltl.specs.Check.{ltlRules}
 use Rattle.lines.specs.Limits.{mostBytes}
+use Rattle.run.specs.Run.{Accepted}
 use Rattle.run.specs.Whole.{endedLines, openLine, Begins, Continues, Runs}
 use Rattle.run.specs.declared.First.{First}
 use Rattle.run.specs.declared.First.the-variants as First
@@ -48,7 +49,8 @@ longest = 107000
 abbrev pub mostLines : ℕ
 mostLines = 18446744073709551615
 
--- The lent lists have their room, and the state's counts are within it; at most `most` bytes are gathered.
+-- The lent lists have their room, and the state's counts are within it; at most `most` bytes are gathered. In a run that goes on after line 1 both
+-- tables are accepted, so that no later line has to check them.
 pub record Within (most : ℕ) (s : State) (line sheet table out : List ℕ) : Type 0 where
   pub lineRoom : length line ≡ keptBytes
   pub sheetRoom : length sheet ≡ 3 * pslRules .most
@@ -59,6 +61,7 @@ pub record Within (most : ℕ) (s : State) (line sheet table out : List ℕ) : T
   pub size : s .size ≤ ltlRules .most
   pub gathered : s .gathered ≤ most
   pub numbered : 0 < s .number
+  pub accepted : 1 < s .number → s .more ≡ true → Accepted (take (3 * s .nodes) sheet) (take (3 * s .size) table)
 
 -- ── The step and the end ──
 

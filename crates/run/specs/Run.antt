@@ -1,9 +1,12 @@
 -- What a run answers to its lines.
 use mathlib.Core.Path.{_≡_}
+use mathlib.Core.Option.{none}
 use mathlib.Core.List.{List}
 use Prim.Native.Nat.{ℕ, _*_}
 use lib.ListN.{take, replicate}
 use Rattle.trace.specs.Letter.{mostLetters}
+use Rattle.psl.specs.Check.{pslRefusal}
+use Rattle.ltl.specs.Check.{ltlRefusal}
 use Rattle.translate.specs.Answer.{Delivers}
 use Rattle.translate.specs.declared.Translation.{Translation}
 use Rattle.translate.specs.declared.Translation.the-variants as Translation
@@ -36,6 +39,10 @@ abbrev pub FirstAnswer : List ℕ → List ℕ → List ℕ → First → List �
 FirstAnswer line l m r l′ m′ = (a : Line) × FormulaAnswer line l a l′ × AfterReading a l′ m m′ r
 
 -- ── Later lines ──
+
+-- Both tables pass their check.
+abbrev pub Accepted : List ℕ → List ℕ → Type 0
+Accepted psl ltl = (pslRefusal psl ≡ none) × (ltlRefusal ltl ≡ none)
 
 -- The reading of a trace line, which left its letters in two lists: both verdicts, of the PSL and of the LTL table.
 abbrev pub AfterTrace : List ℕ → List ℕ → TraceLine → List ℕ → List ℕ → Later → Type 0

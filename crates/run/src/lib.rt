@@ -2,7 +2,7 @@
 pub mod stream;
 mod text;
 
-ghost use Rattle.run.specs.Run.{FirstAnswer, LaterAnswer};
+ghost use Rattle.run.specs.Run.{FirstAnswer, LaterAnswer, Accepted};
 use lines::formula::Line;
 use lines::traces::TraceLine;
 use trace::Refusal;
@@ -37,8 +37,9 @@ pub fn first_line(line: &[u8], sheet: &mut [u16], table: &mut [u16]) -> First
     }
 }
 
-// A later line: both verdicts on its trace.
-pub fn later_line(line: &[u8], sheet: &[u16], table: &[u16]) -> Later
+// A later line: both verdicts on its trace, by tables that were checked with line 1.
+fn later_line(line: &[u8], sheet: &[u16], table: &[u16]) -> Later
+    requires { ⌜ Accepted (now sheet) (now table) ⌝ }
     ensures { λ r. ⌜ LaterAnswer (now (line .entry)) (now (sheet .entry)) (now (table .entry)) r ⌝ }
 {
     let mut lead = [0u32; 64];
@@ -46,8 +47,8 @@ pub fn later_line(line: &[u8], sheet: &[u16], table: &[u16]) -> Later
     match lines::traces::read_trace(line, &mut lead, &mut cycle) {
         TraceLine::Refused(x) => Later::Refused(x),
         TraceLine::Letters { lead: a, cycle: b } => Later::Verdicts(
-            verdict::psl_verdict(sheet, &lead[..a], &cycle[..b]),
-            verdict::ltl_verdict(table, &lead[..a], &cycle[..b]),
+            verdict::judge_psl(sheet, &lead[..a], &cycle[..b]),
+            verdict::judge_ltl(table, &lead[..a], &cycle[..b]),
         ),
     }
 }

@@ -12,6 +12,7 @@ ghost use mathlib.Core.Path.{_≡_};
 ghost use mathlib.Core.Bool.{true};
 ghost use Prim.Native.Nat.{_+_, _<_, _≤_};
 ghost use lib.ListN.{length};
+ghost use Rattle.run.specs.Run.{Accepted};
 ghost use Rattle.run.specs.Progress.{much, mostLines, Within, Stops, Stepped, Ended};
 ghost use Rattle.run.specs.Inner.{FirstDone, LaterDone, LineDone, Keeps, Same, Passed};
 
@@ -84,7 +85,7 @@ fn answer_later(
     number: u64,
     gathered: usize,
 ) -> usize
-    requires { ⌜ (0 < number) × (gathered ≤ much) ⌝ }
+    requires { ⌜ (0 < number) × (gathered ≤ much) × Accepted (now psl) (now ltl) ⌝ }
     ensures { λ r. ⌜ LaterDone (now (line .entry)) (now (psl .entry)) (now (ltl .entry)) (now (out .entry)) number gathered (now (out .exit)) r ⌝ }
 {
     match later_line(line, psl, ltl) {

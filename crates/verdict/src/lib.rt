@@ -149,7 +149,7 @@ fn fill_rows(t: &[u16], lead: &[Letter], cycle: &[Letter], told: &mut [Row])
 }
 
 // Whether an accepted LTL table holds on a trace. Small tables, which are the rule, clear a small array.
-pub fn ltl_holds(t: &[u16], lead: &[Letter], cycle: &[Letter]) -> bool
+fn ltl_holds(t: &[u16], lead: &[Letter], cycle: &[Letter]) -> bool
     requires { ⌜ (ltlRefusal (now t) ≡ none) × Few (now lead) (now cycle) ⌝ }
     ensures { λ b. ⌜ LtlHoldsOn (treeOf (now (t .entry))) (now (lead .entry)) (now (cycle .entry)) ↔ T b ⌝ }
 {
@@ -166,7 +166,7 @@ pub fn ltl_holds(t: &[u16], lead: &[Letter], cycle: &[Letter]) -> bool
 }
 
 // Whether an accepted PSL table holds on a trace: the translation's row, with nothing accepted or rejected yet.
-pub fn psl_holds(t: &[u16], lead: &[Letter], cycle: &[Letter]) -> bool
+fn psl_holds(t: &[u16], lead: &[Letter], cycle: &[Letter]) -> bool
     requires { ⌜ (pslRefusal (now t) ≡ none) × (size (now lead) (now cycle) ≤ mostLetters) ⌝ }
     ensures { λ b. ⌜ HoldsOn (formulaOf (now (t .entry))) (now (lead .entry)) (now (cycle .entry)) ↔ T b ⌝ }
 {
@@ -193,19 +193,40 @@ fn decided(b: bool) -> Verdict
     if b { Verdict::Yes } else { Verdict::No }
 }
 
+// The PSL verdict on an accepted table: refusal 9, then yes or no.
+pub fn judge_psl(t: &[u16], lead: &[Letter], cycle: &[Letter]) -> Verdict
+    requires { ⌜ pslRefusal (now t) ≡ none ⌝ }
+    ensures { λ v. ⌜ PslJudges (now (t .entry)) (now (lead .entry)) (now (cycle .entry)) v ⌝ }
+{
+    if MOST_LETTERS < lead.len() + cycle.len() {
+        return Verdict::Refused(Refusal(9));
+    }
+    decided(psl_holds(t, lead, cycle))
+}
+
 // Refusals 1 to 8, then 9.
 pub fn psl_verdict(t: &[u16], lead: &[Letter], cycle: &[Letter]) -> Verdict
     ensures { λ v. ⌜ PslJudges (now (t .entry)) (now (lead .entry)) (now (cycle .entry)) v ⌝ }
 {
     match psl::check_psl(t) {
         Checked::Refused(x) => Verdict::Refused(x),
-        Checked::Accepted => {
-            if MOST_LETTERS < lead.len() + cycle.len() {
-                return Verdict::Refused(Refusal(9));
-            }
-            decided(psl_holds(t, lead, cycle))
-        }
+        Checked::Accepted => judge_psl(t, lead, cycle),
     }
+}
+
+// The LTL verdict on an accepted table: refusals 9 and 16, then yes or no.
+pub fn judge_ltl(t: &[u16], lead: &[Letter], cycle: &[Letter]) -> Verdict
+    requires { ⌜ ltlRefusal (now t) ≡ none ⌝ }
+    ensures { λ v. ⌜ LtlJudges (now (t .entry)) (now (lead .entry)) (now (cycle .entry)) v ⌝ }
+{
+    let letters = lead.len() + cycle.len();
+    if MOST_LETTERS < letters {
+        return Verdict::Refused(Refusal(9));
+    }
+    if letters == 0 {
+        return Verdict::Refused(Refusal(16));
+    }
+    decided(ltl_holds(t, lead, cycle))
 }
 
 // Refusals 11 to 15, then 9, then 16.
@@ -214,15 +235,6 @@ pub fn ltl_verdict(t: &[u16], lead: &[Letter], cycle: &[Letter]) -> Verdict
 {
     match ltl::check_ltl(t) {
         Checked::Refused(x) => Verdict::Refused(x),
-        Checked::Accepted => {
-            let letters = lead.len() + cycle.len();
-            if MOST_LETTERS < letters {
-                return Verdict::Refused(Refusal(9));
-            }
-            if letters == 0 {
-                return Verdict::Refused(Refusal(16));
-            }
-            decided(ltl_holds(t, lead, cycle))
-        }
+        Checked::Accepted => judge_ltl(t, lead, cycle),
     }
 }

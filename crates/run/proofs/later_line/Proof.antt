@@ -11,8 +11,8 @@ use Rattle.run.proofs.later_line.Tie as tie
 use Rattle.run.proofs.later_line.Reads as reads
 use Rattle.run.proofs.later_line.Lts as lts
 use Rattle.lines.proofs.traces.read_trace.Reads as read-trace-reads
-use Rattle.verdict.proofs.ltl_verdict.Reads as ltl-verdict-reads
-use Rattle.verdict.proofs.psl_verdict.Reads as psl-verdict-reads
+use Rattle.verdict.proofs.judge_ltl.Reads as judge-ltl-reads
+use Rattle.verdict.proofs.judge_psl.Reads as judge-psl-reads
 
 -- src/lib.rt:43:43
 slice-aggregate-read-trace : tie.Need-slice-aggregate-read-trace
@@ -41,8 +41,8 @@ array-share-prefix-lead c =
     (letters-few (subst (λ (x : TraceLine). TraceAnswer (st .args .line .now) room room x (F .read-trace .last .1 .0) (F .read-trace .last .1 .1 .0)) (E .a .given .1) (F .read-trace .ensures))) .0
 
 -- src/lib.rt:46:41
-slice-aggregate-psl-verdict : tie.Need-slice-aggregate-psl-verdict
-slice-aggregate-psl-verdict c =
+slice-aggregate-judge-psl : tie.Need-slice-aggregate-judge-psl
+slice-aggregate-judge-psl c =
     let E = c .before .before in let F = E .before .before .before .before in let st = F .before .before .before .before .before .before in
     sym (length-take-le _ _ ((letters-few (subst (λ (x : TraceLine). TraceAnswer (st .args .line .now) room room x (F .read-trace .last .1 .0) (F .read-trace .last .1 .1 .0)) (E .a .given .1) (F .read-trace .ensures))) .0))
 
@@ -53,14 +53,14 @@ array-share-prefix-cycle c =
     (letters-few (subst (λ (x : TraceLine). TraceAnswer (st .args .line .now) room room x (F .read-trace .last .1 .0) (F .read-trace .last .1 .1 .0)) (E .a .given .1) (F .read-trace .ensures))) .1
 
 -- src/lib.rt:46:53
-slice-aggregate-psl-verdict-2 : tie.Need-slice-aggregate-psl-verdict-2
-slice-aggregate-psl-verdict-2 c =
+slice-aggregate-judge-psl-2 : tie.Need-slice-aggregate-judge-psl-2
+slice-aggregate-judge-psl-2 c =
     let E = c .before .before .before in let F = E .before .before .before .before in let st = F .before .before .before .before .before .before in
     sym (length-take-le _ _ ((letters-few (subst (λ (x : TraceLine). TraceAnswer (st .args .line .now) room room x (F .read-trace .last .1 .0) (F .read-trace .last .1 .1 .0)) (E .a .given .1) (F .read-trace .ensures))) .1))
 
 -- src/lib.rt:46:13
-psl-verdict-requires : tie.Need-psl-verdict-requires
-psl-verdict-requires c κs = search needs
+judge-psl-requires : tie.Need-judge-psl-requires
+judge-psl-requires c κs = search needs
 
 -- src/lib.rt:47:41
 array-share-prefix-lead-2 : tie.Need-array-share-prefix-lead-2
@@ -69,8 +69,8 @@ array-share-prefix-lead-2 c =
     (letters-few (subst (λ (x : TraceLine). TraceAnswer (st .args .line .now) room room x (F .read-trace .last .1 .0) (F .read-trace .last .1 .1 .0)) (E .a .given .1) (F .read-trace .ensures))) .0
 
 -- src/lib.rt:47:41
-slice-aggregate-ltl-verdict : tie.Need-slice-aggregate-ltl-verdict
-slice-aggregate-ltl-verdict c =
+slice-aggregate-judge-ltl : tie.Need-slice-aggregate-judge-ltl
+slice-aggregate-judge-ltl c =
     let E = c .before .before .before .before .before in let F = E .before .before .before .before in let st = F .before .before .before .before .before .before in
     sym (length-take-le _ _ ((letters-few (subst (λ (x : TraceLine). TraceAnswer (st .args .line .now) room room x (F .read-trace .last .1 .0) (F .read-trace .last .1 .1 .0)) (E .a .given .1) (F .read-trace .ensures))) .0))
 
@@ -81,14 +81,14 @@ array-share-prefix-cycle-2 c =
     (letters-few (subst (λ (x : TraceLine). TraceAnswer (st .args .line .now) room room x (F .read-trace .last .1 .0) (F .read-trace .last .1 .1 .0)) (E .a .given .1) (F .read-trace .ensures))) .1
 
 -- src/lib.rt:47:53
-slice-aggregate-ltl-verdict-2 : tie.Need-slice-aggregate-ltl-verdict-2
-slice-aggregate-ltl-verdict-2 c =
+slice-aggregate-judge-ltl-2 : tie.Need-slice-aggregate-judge-ltl-2
+slice-aggregate-judge-ltl-2 c =
     let E = c .before .before .before .before .before .before in let F = E .before .before .before .before in let st = F .before .before .before .before .before .before in
     sym (length-take-le _ _ ((letters-few (subst (λ (x : TraceLine). TraceAnswer (st .args .line .now) room room x (F .read-trace .last .1 .0) (F .read-trace .last .1 .1 .0)) (E .a .given .1) (F .read-trace .ensures))) .1))
 
 -- src/lib.rt:47:13
-ltl-verdict-requires : tie.Need-ltl-verdict-requires
-ltl-verdict-requires c κs = search needs
+judge-ltl-requires : tie.Need-judge-ltl-requires
+judge-ltl-requires c κs = search needs
 
 -- src/lib.rt:38:1
 returns : tie.Need-returns
@@ -100,7 +100,7 @@ returns c =
 returns-2 : tie.Need-returns-2
 returns-2 c =
     let E = c .before .before .before .before .before .before .before in let F = E .before .before .before .before in let st = F .before .before .before .before .before .before in
-    (_, _, _, subst (λ (x : TraceLine). TraceAnswer (st .args .line .now) room room x (F .read-trace .last .1 .0) (F .read-trace .last .1 .1 .0)) (E .a .given .1) (F .read-trace .ensures), (c .before .before .before .psl-verdict .ensures, c .ltl-verdict .ensures))
+    (_, _, _, subst (λ (x : TraceLine). TraceAnswer (st .args .line .now) room room x (F .read-trace .last .1 .0) (F .read-trace .last .1 .1 .0)) (E .a .given .1) (F .read-trace .ensures), (c .before .before .before .judge-psl .ensures, c .judge-ltl .ensures))
 
 pub later-line-spec : {M : Type 1} → statement M
 later-line-spec =
@@ -112,14 +112,14 @@ later-line-spec =
     enum-known-x
     enum-known-a
     array-share-prefix-lead
-    slice-aggregate-psl-verdict
+    slice-aggregate-judge-psl
     array-share-prefix-cycle
-    slice-aggregate-psl-verdict-2
-    psl-verdict-requires
+    slice-aggregate-judge-psl-2
+    judge-psl-requires
     array-share-prefix-lead-2
-    slice-aggregate-ltl-verdict
+    slice-aggregate-judge-ltl
     array-share-prefix-cycle-2
-    slice-aggregate-ltl-verdict-2
-    ltl-verdict-requires
+    slice-aggregate-judge-ltl-2
+    judge-ltl-requires
     returns
     returns-2)

@@ -63,7 +63,10 @@ slice-aggregate-answer-later-3 c =
     sym (length-take-le _ _ (omega (arith, at-pre .0 .size, at-pre .0 .tableRoom)))
 
 answer-later-requires : tie.Need-answer-later-requires
-answer-later-requires c κs = search needs
+answer-later-requires c κs =
+    let at-pre = c .before .before .before .before .before .before .before .before .before .before .before .before .before .pre in
+    let at-if1 = c .before .before .before .before .before .before .before .if1 in
+    (at-pre .0 .numbered, at-pre .0 .gathered, at-pre .0 .accepted (omega (arith, at-if1 .left)) (at-pre .1))
 
 same-length-4 : tie.Need-same-length-4
 same-length-4 c = search needs

@@ -31,7 +31,7 @@ end-line-requires c κs =
     let at-loop = c .before .before .before .before .before .before .before .before .loop in
     let at-if1 = c .before .before .before .before .before .before .if1 in
     let g = at-loop .inv in
-    (within-as (at-loop .r) (taking (at-loop .r)) (g .within) refl refl refl refl (g .within .gathered), g .more, omega (arith, g .number, at-if1 .taken))
+    (within-as (at-loop .r) (taking (at-loop .r)) (g .within) refl refl refl refl (λ m. m) (g .within .gathered), g .more, omega (arith, g .number, at-if1 .taken))
 
 stops-requires : tie.Need-stops-requires Inv-loop μ-loop
 stops-requires c κs = search needs

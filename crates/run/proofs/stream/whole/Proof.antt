@@ -1,7 +1,6 @@
 -- The lists keep their room, and the turns fall.
 use Prim.Native.Nat.{ℕ, _<_}
 use lib.ListN.{length-replicate}
--- The lists keep their room, and the turns fall.
 use mathlib.Core.Path.{_≡_, refl, sym}
 use mathlib.Core.Bool.{true}
 use native.Mathlib.Omega.{arith}
@@ -17,7 +16,7 @@ abbrev μ-loop : tie.MeasureT-loop
 μ-loop line₀ sheet₀ table₀ out₀ s₀ turns₀ line sheet table out s turns = turns
 
 loop-holds : tie.Need-loop-holds Inv-loop μ-loop
-loop-holds c = (record { lineRoom = length-replicate {A = ℕ} 16385 0; sheetRoom = length-replicate {A = ℕ} 3072 0; tableRoom = length-replicate {A = ℕ} 12288 0; outRoom = length-replicate {A = ℕ} 180224 0; filled = omega arith; nodes = omega arith; size = omega arith; gathered = omega arith; numbered = omega arith }, λ _. refl)
+loop-holds c = (record { lineRoom = length-replicate {A = ℕ} 16385 0; sheetRoom = length-replicate {A = ℕ} 3072 0; tableRoom = length-replicate {A = ℕ} 12288 0; outRoom = length-replicate {A = ℕ} 180224 0; filled = omega arith; nodes = omega arith; size = omega arith; gathered = omega arith; numbered = omega arith; accepted = λ h. absurd (omega arith) }, λ _. refl)
 
 slice-aggregate-turn : tie.Need-slice-aggregate-turn Inv-loop μ-loop
 slice-aggregate-turn c =
