@@ -1,9 +1,9 @@
 //! Both checks, both verdicts, the translator, the lines and the whole run in
 //! plain Rust written for speed: what the library is measured against.
 //!
-//! The verdicts are bit-parallel. A row is one u64, the truths of a node at
-//! up to 64 moments, bit m for moment m; bits past the last letter may hold
-//! anything, and only `next` and `until` mask them out.
+//! The verdicts are bit-parallel, by the library's own algorithm. A row is one
+//! u64, the truths of a node at up to 64 moments, the last letter's the lowest
+//! bit; bits past the first letter may hold anything.
 
 #![allow(dead_code)]
 
@@ -161,8 +161,6 @@ pub fn check_psl(table: &[u16]) -> Result<(), u8> {
 struct Rows<'a> {
     lead: &'a [u32],
     cycle: &'a [u32],
-    /// The moments inside.
-    inside: u64,
     signals: [u64; SIGNALS as usize],
     known: u32,
 }
@@ -172,7 +170,6 @@ impl<'a> Rows<'a> {
         Rows {
             lead,
             cycle,
-            inside: u64::MAX >> (MAX_LETTERS - lead.len() - cycle.len()),
             signals: [0; SIGNALS as usize],
             known: 0,
         }
@@ -182,10 +179,10 @@ impl<'a> Rows<'a> {
         let at = signal as usize % SIGNALS as usize;
         if self.known >> at & 1 == 0 {
             let mut row = 0;
-            for letter in self.cycle.iter().rev() {
+            for letter in self.lead {
                 row = 2 * row + (letter >> at & 1) as u64;
             }
-            for letter in self.lead.iter().rev() {
+            for letter in self.cycle {
                 row = 2 * row + (letter >> at & 1) as u64;
             }
             self.signals[at] = row;
@@ -194,43 +191,40 @@ impl<'a> Rows<'a> {
         self.signals[at]
     }
 
-    /// The truth at the cycle's first moment, put at the last moment; nothing
-    /// on a finite trace.
+    /// The truth at the cycle's first moment; no on a finite trace.
     fn round(&self, row: u64) -> u64 {
-        if self.cycle.is_empty() || row >> self.lead.len() & 1 == 0 {
-            0
-        } else {
-            self.inside ^ (self.inside >> 1)
+        match self.cycle.len() {
+            0 => 0,
+            period => row >> ((period - 1) % MAX_LETTERS) & 1,
         }
     }
 
     fn next(&self, f: u64) -> u64 {
-        (f & self.inside) >> 1 | self.round(f)
+        f << 1 | self.round(f)
     }
 
     /// One sweep from no; on a cycle a second one from what the first gave at
     /// the cycle's first moment.
     fn until(&self, f: u64, g: u64) -> u64 {
-        let g = g & self.inside;
-        let first = sweep(f, g);
-        let carried = f & self.round(first);
-        if carried == 0 {
-            first
+        let once = sweep(f, g, 0);
+        if self.cycle.is_empty() {
+            once
         } else {
-            sweep(f, g | carried)
+            sweep(f, g, self.round(once))
         }
+    }
+
+    /// A row's truth at moment 0.
+    fn first(&self, row: u64) -> bool {
+        row >> ((self.lead.len() + self.cycle.len() - 1) % MAX_LETTERS) & 1 == 1
     }
 }
 
-/// Where g holds at some later bit or here, and f at every bit before that
-/// one, by six doublings.
-fn sweep(f: u64, g: u64) -> u64 {
-    let (mut until, mut run) = (g, f);
-    for step in [1, 2, 4, 8, 16, 32] {
-        until |= run & (until >> step);
-        run &= run >> step;
-    }
-    until
+/// Where g holds at some lower bit or here, and f at every bit from here down
+/// to above that one, as the carries of a sum.
+fn sweep(f: u64, g: u64, carry: u64) -> u64 {
+    let sum = (f | g).wrapping_add(g).wrapping_add(carry);
+    g | f & !sum
 }
 
 // -------------------------------------------------------------- verdicts
@@ -257,7 +251,9 @@ fn ltl_row(table: &[u16], trace: &mut Rows, rows: &mut Vec<u64>) -> u64 {
 
 /// An accepted LTL table on a trace of 1 to 64 letters.
 pub fn ltl_holds(table: &[u16], lead: &[u32], cycle: &[u32]) -> bool {
-    ltl_row(table, &mut Rows::new(lead, cycle), &mut Vec::new()) & 1 == 1
+    let mut trace = Rows::new(lead, cycle);
+    let row = ltl_row(table, &mut trace, &mut Vec::new());
+    trace.first(row)
 }
 
 /// LTL verdict, refusals 11 to 15, 9 and 16.
@@ -330,7 +326,9 @@ pub fn psl_holds(table: &[u16], lead: &[u32], cycle: &[u32]) -> bool {
     if lead.is_empty() && cycle.is_empty() {
         return empty_holds(table, root(table));
     }
-    formula_row(table, root(table), 0, 0, &mut Rows::new(lead, cycle)) & 1 == 1
+    let mut trace = Rows::new(lead, cycle);
+    let row = formula_row(table, root(table), 0, 0, &mut trace);
+    trace.first(row)
 }
 
 /// PSL verdict, refusals 1 to 8 and 9.
@@ -869,7 +867,7 @@ impl Run {
             let mut trace = Rows::new(lead, cycle);
             let psl = formula_row(&self.psl, root(&self.psl), 0, 0, &mut trace);
             let ltl = ltl_row(&self.ltl, &mut trace, &mut self.rows);
-            (psl & 1 == 1, Some(ltl & 1 == 1))
+            (trace.first(psl), Some(trace.first(ltl)))
         };
         let mut text = Text::new();
         text.put(b"(trace ");
