@@ -100,7 +100,7 @@ pub fn until_row(f: Row, g: Row, period: usize) -> Row
     }
 }
 
-// The row of not, and, or. Most nodes are one of the three: two tests, which a processor guesses better than a jump by the kind.
+// The row of not, and, or. Most nodes are one of the three: two tests in front of the jump by the kind measured faster than that jump alone.
 fn logic_row(k: u16, a: Row, b: Row) -> Row
     requires { ⌜ (2 ≤ k) × (k < 5) ⌝ }
     ensures { λ w. ⌜ ((lead loop : List ℕ) (l : ℕ) → Few lead loop → TellsNode lead loop k l a b w) ⌝ }

@@ -143,7 +143,7 @@ fn stops(s: State) -> bool
 
 // Bytes of a block of input, from the first that is not taken yet. It stops early where the run is over, or where the caller has to write
 // what is gathered first.
-pub fn step(
+fn step(
     block: &[u8],
     line: &mut [u8],
     sheet: &mut [u16],
@@ -172,7 +172,7 @@ pub fn step(
 }
 
 // The input's end: a last line without byte 10; an input without any line is an empty first one.
-pub fn last(line: &[u8], sheet: &mut [u16], table: &mut [u16], out: &mut [u8], s: State) -> State
+fn last(line: &[u8], sheet: &mut [u16], table: &mut [u16], out: &mut [u8], s: State) -> State
     requires { ⌜ Within much s (now line) (now sheet) (now table) (now out) × (s .more ≡ true) × (s .number < mostLines) ⌝ }
     ensures { λ r. ⌜ Ended (now (line .entry)) (now (sheet .entry)) (now (table .entry)) (now (out .entry)) s r (now (sheet .exit)) (now (table .exit)) (now (out .exit)) ⌝ }
 {
