@@ -1,6 +1,7 @@
 -- Laws that the proofs share.
 pub mod StoreLaw
 pub mod PlaceLaw
+pub mod ReadingLaw
 pub mod NumberLaw
 pub mod ScanLaw
 pub mod WordLaw
@@ -15,3 +16,5 @@ pub mod LettersLaw
 pub mod TraceLaw
 pub mod WriterLaw
 pub mod NodeLaw
+pub mod LimitsLaw
+pub mod ClaimsLaw

@@ -1,30 +1,33 @@
 -- What each way out of the reader of a formula line gives, in terms of how formulas are spelled.
 use mathlib.Core.Path.{_≡_, refl, ap, sym, subst, _∙_}
 use mathlib.Core.Bool.{Bool, true, false, _&&_, _||_}
+use mathlib.Core.Option.{none, some}
 use mathlib.Core.List.{List, [], _∷_, _++_, append-assoc, append-nil, append-cancel-left}
 use Prim.Native.Nat.{ℕ, suc, _+_, _*_, _<_, _≤_}
 use native.Mathlib.Omega.{arith}
-use borrow.Author.Tests.{lt-ltb, le-ltb, ne-eqb}
+use borrow.Author.Tests.{lt-leb, le-leb, ne-eqb}
 use lib.ListN.{length, drop}
 use lib.Seq.{drop-length}
-use lib.Dec.{eqb, ltb, leb}
+use lib.Dec.{eqb, leb}
 use Rattle.trace.specs.Letter.{signals}
-use Rattle.table.specs.Node.{Node, node, _▸_}
+use Rattle.table.specs.Node.{Node, node, numbersOf, _▸_}
+use Rattle.table.proofs.NodeLaw.{length-numbers}
 use Rattle.psl.specs.Formula.{btrue, Formula, weak}
 use Rattle.table.specs.Answer.{refused}
 use Rattle.lines.specs.Text.{text}
 use Rattle.lines.specs.Spelling.{spell, formulaLine}
 use Rattle.lines.specs.Closing.{table}
 use Rattle.lines.specs.Limits.{mostBytes}
-use Rattle.lines.specs.FormulaAnswer.{largeSignal, formulaAnswer, formulaList, FormulaAnswer}
+use Rattle.lines.specs.Reading.{long, breaks, spells}
+use Rattle.lines.specs.FormulaAnswer.{largeSignal, formulaLimits, formulaRefusal, FormulaAnswer}
 use Rattle.lines.specs.Inner.Places.{byteAt, Stands, Agree, Begins, Stops, StopsLine}
 use Rattle.lines.specs.Inner.Form.{Form, truth, signal, one, two, arity, Sorted, bytes, closed, wide}
 use Rattle.lines.specs.Inner.Reader.{FormOf, filled, FormStands, FormulaLine, WholeStands, WholeRead}
-use Rattle.lines.specs.declared.formula.Line.{Line}
 use Rattle.lines.specs.declared.formula.Line.the-variants.{Nodes, Refused}
 use Rattle.lines.specs.declared.formula.Read.{Read}
 use Rattle.lines.specs.declared.formula.Read.the-variants.{Got, No}
 use Rattle.lines.proofs.PlaceLaw.{agree-self, stands-one, stands-join, stops-here, halts-first, begins-first, halts-after, stops-line, Nothing, stops-end}
+use Rattle.lines.proofs.ReadingLaw.{breaks-at, front-sets}
 use Rattle.lines.proofs.StoreLaw.{or-false-right, or-assoc}
 use Rattle.lines.proofs.FormLaw.{var-arity}
 use Rattle.lines.proofs.FormulaLaw.{form, form-sorted, form-bytes, form-nodes, as-formula, spell-unique, line-unique, formula-injective}
@@ -136,54 +139,49 @@ module _ {s : List ℕ} (o : Psl s) where
 -- ── The answer ──
 
 pub too-long : (s l : List ℕ) → mostBytes < length s → FormulaAnswer s l (Refused (refused 17)) l
-too-long s l h = record { long = λ _. (refl, refl); stray = λ g z. absurd (omega arith); spelt = λ g f e. absurd (omega arith) }
+too-long s l h = (record { reading = long h; reason = refl }, refl)
 
 pub no-formula : (s l : List ℕ) {p : ℕ} → length s ≤ mostBytes → StopsLine FormulaLine s 0 p → FormulaAnswer s l (Refused (refused 18)) l
-no-formula s l {p} h a =
-    record {
-      long = λ g. absurd (omega arith);
-      stray = λ g z. (refl, refl);
-      spelt = λ g f e. absurd (a .none s (agree-self (suc p) s) (f, e));
-    }
-
-answers : (s l m : List ℕ) (r : Line) (f : Formula) → length s ≤ mostBytes → s ≡ formulaLine f
-    → r ≡ formulaAnswer (table f) (length l) → m ≡ formulaList r (table f) l → FormulaAnswer s l r m
-answers s l m r f h e v w =
-    record {
-      long = λ q. absurd (omega arith);
-      stray = λ q z. absurd (z f e);
-      spelt = λ q g u.
-          let d = formula-injective f g (sym e ∙ u) in
-          (v ∙ ap (λ (x : Formula). formulaAnswer (table x) (length l)) d, w ∙ ap (λ (x : Formula). formulaList r (table x) l) d);
-    }
+no-formula s l {p} h a = (record { reading = breaks h p (breaks-at (λ w x. x) (λ f. (f, refl)) a); reason = refl }, refl)
 
 -- The line spells f; a and b are the list of the reading without room.
 module _ {s : List ℕ} (l : List ℕ) {f : Formula} {nodes : ℕ} {large : Bool} {a b : List ℕ} (h : length s ≤ mostBytes) (x : WholeStands f s nodes large a b) where
+  refuses : (e : ℕ) → formulaRefusal (length l) f ≡ some (refused e) → FormulaAnswer s l (Refused (refused e)) l
+  refuses e d = (record { reading = spells h f (x .is); reason = d }, refl)
+
   pub many-nodes : 1024 < nodes → FormulaAnswer s l (Refused (refused 19)) l
-  many-nodes i = answers s l l (Refused (refused 19)) f h (x .is) (rw (lt-ltb 1024 (length (table f)) (omega (arith, x .counted)))) refl
+  unfolding formulaLimits formulaRefusal
+  many-nodes i = refuses 19 (rw (lt-leb (length (table f)) 1024 (omega (arith, x .counted))))
 
   module _ (i : nodes ≤ 1024) where
-    few : ltb 1024 (length (table f)) ≡ false
-    few = le-ltb 1024 (length (table f)) (omega (arith, x .counted))
+    few : leb (length (table f)) 1024 ≡ true
+    few = le-leb (length (table f)) 1024 (omega (arith, x .counted))
 
     pub large-signal : large ≡ true → FormulaAnswer s l (Refused (refused 20)) l
-    large-signal j = answers s l l (Refused (refused 20)) f h (x .is) (rw (few, sym (x .signals) ∙ j)) refl
+    unfolding formulaLimits formulaRefusal
+    large-signal j = refuses 20 (rw (few, sym (x .signals) ∙ j))
 
     module _ (j : large ≡ false) where
       pub no-room : length l < 3 * nodes → FormulaAnswer s l (Refused (refused 23)) l
-      no-room k =
-          answers s l l (Refused (refused 23)) f h (x .is)
-          (rw (few, sym (x .signals) ∙ j, lt-ltb (length l) (3 * length (table f)) (omega (arith, x .counted)))) refl
+      unfolding formulaLimits formulaRefusal
+      no-room k = refuses 23 (rw (few, sym (x .signals) ∙ j, lt-leb (3 * length (table f)) (length l) (omega (arith, x .counted))))
 
-      pub table-read : 3 * nodes ≤ length l → (m : List ℕ) (r : Read) → WholeRead s l m r → FormulaAnswer s l (Nodes nodes) m
-      table-read k m r y =
-          answers s l m (Nodes nodes) f h (x .is)
-          (ap Nodes (x .counted) ∙ rw (few, sym (x .signals) ∙ j, le-ltb (length l) (3 * length (table f)) (omega (arith, x .counted))) refl)
-          (go r y)
-        where
-          go : (r : Read) → WholeRead s l m r → m ≡ formulaList (Nodes nodes) (table f) l
-          go (No p) z = absurd (z .none s (agree-self (suc p) s) (f, x .is))
-          go (Got next n w) (g, z) =
-              let d = formula-injective f g (sym (x .is) ∙ z .is) in
-              z .written (z .signals ∙ ap (λ (u : Formula). largeSignal (table u)) (sym d) ∙ sym (x .signals) ∙ j)
-              ∙ ap (λ (u : Formula). formulaList (Nodes nodes) (table u) l) (sym d)
+      module _ (k : 3 * nodes ≤ length l) where
+        room : formulaRefusal (length l) f ≡ none
+        unfolding formulaLimits formulaRefusal
+        room = rw (few, sym (x .signals) ∙ j, le-leb (3 * length (table f)) (length l) (omega (arith, x .counted)))
+
+        pub table-read : (m : List ℕ) (r : Read) → WholeRead s l m r → FormulaAnswer s l (Nodes nodes) m
+        table-read m r y = (
+          f,
+          record { short = h; is = x .is; within = room },
+          x .counted,
+          go r y ∙ front-sets (numbersOf (table f)) l (omega (arith, x .counted, length-numbers (table f))),
+        )
+          where
+            go : (r : Read) → WholeRead s l m r → m ≡ filled l (table f)
+            go (No p) z = absurd (z .none s (agree-self (suc p) s) (f, x .is))
+            go (Got next n w) (g, z) =
+                let d = formula-injective f g (sym (x .is) ∙ z .is) in
+                z .written (z .signals ∙ ap (λ (u : Formula). largeSignal (table u)) (sym d) ∙ sym (x .signals) ∙ j)
+                ∙ ap (λ (u : Formula). filled l (table u)) (sym d)

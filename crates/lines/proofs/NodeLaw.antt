@@ -7,6 +7,7 @@ use Prim.Native.Nat.{ℕ, zero, suc, _<_, _≤_}
 use native.Mathlib.Omega.{arith}
 use borrow.Author.Tests.{lt-ltb, le-ltb, ltb-true}
 use lib.ListN.{length, take}
+use lib.Seq.{sets}
 use lib.Dec.{T, ltb}
 use Rattle.trace.specs.declared.Refusal.{Refusal}
 use Rattle.table.specs.Node.{Node, node}
@@ -25,6 +26,7 @@ use Rattle.lines.specs.Inner.Writer.{Wrote}
 use Rattle.lines.specs.declared.nodes.NodeLine.{NodeLine}
 use Rattle.lines.specs.declared.nodes.NodeLine.the-variants.{Bytes, Refused}
 use Rattle.lines.proofs.NumberLaw.{digits-unique}
+use Rattle.lines.proofs.WriterLaw.{wrote-front}
 use Rattle.lines.proofs.WordLaw.{Distinct, word-unique}
 use Rattle.lines.proofs.LettersLaw.{further-unique}
 
@@ -55,17 +57,21 @@ module _ (i k p q : ℕ) (l : List ℕ) where
       sound : nodeRefusal ltlRules i (node k p q) false false ≡ none
       sound = accepted _ a e d
 
-      module _ {u v : List ℕ} (n : ℕ) (dry : Wrote (nodeLine i (node k p q)) u v 0 n) where
+      -- The line was written aside, into v.
+      module _ {u v : List ℕ} (n : ℕ) (aside : Wrote (nodeLine i (node k p q)) u v 0 n) (room : length (nodeLine i (node k p q)) ≤ length u) where
+        counted : n ≡ length (nodeLine i (node k p q))
+        counted = omega (arith, aside .ends)
+
         pub no-room : length l < n → Answers i (node k p q) l (Refused (refused 24)) l
         no-room g =
             answers i (node k p q) l l (Refused (refused 24)) none (fault ∙ sound)
-            (rw (lt-ltb (length l) (length (nodeLine i (node k p q))) (omega (arith, dry .ends)))) refl
+            (rw (lt-ltb (length l) (length (nodeLine i (node k p q))) (omega (arith, counted)))) refl
 
-        pub line-written : n ≤ length l → {m : List ℕ} {end : ℕ} → Wrote (nodeLine i (node k p q)) l m 0 end → Answers i (node k p q) l (Bytes n) m
+        pub line-written : n ≤ length l → {m : List ℕ} {end : ℕ} → Wrote (take n v) l m 0 end → Answers i (node k p q) l (Bytes n) m
         line-written g w =
-            let counted : n ≡ length (nodeLine i (node k p q)) = omega (arith, dry .ends) in
             answers i (node k p q) l _ (Bytes n) none (fault ∙ sound)
-            (ap Bytes counted ∙ rw (le-ltb (length l) (length (nodeLine i (node k p q))) (omega (arith, dry .ends))) refl) (w .is)
+            (ap Bytes counted ∙ rw (le-ltb (length l) (length (nodeLine i (node k p q))) (omega (arith, counted))) refl)
+            (w .is ∙ ap (sets l 0) (wrote-front aside room))
 
 -- ── No two nodes are spelled alike ──
 

@@ -1,6 +1,6 @@
 -- Laws of stores and of tests that are joined.
 use mathlib.Core.Path.{_≡_, refl, ap, _∙_}
-use mathlib.Core.Bool.{Bool, true, false, _||_}
+use mathlib.Core.Bool.{Bool, true, false, _&&_, _||_}
 use mathlib.Core.List.{List, [], _∷_, _++_}
 use Prim.Native.Nat.{ℕ, suc, _+_}
 use native.Mathlib.Omega.{arith}
@@ -18,6 +18,10 @@ or-false-right false = refl
 pub or-assoc : (a b c : Bool) → ((a || b) || c) ≡ (a || (b || c))
 or-assoc true b c = refl
 or-assoc false b c = refl
+
+pub and-false : (a b : Bool) → b ≡ false → (a && b) ≡ false
+and-false true b e = e
+and-false false b e = refl
 
 -- Two runs of stores, one after the other.
 pub sets-sets : (xs ys l : List ℕ) (i j : ℕ) → i + length xs ≡ j → sets (sets l i xs) j ys ≡ sets l i (xs ++ ys)

@@ -1,25 +1,27 @@
 -- What each way out of the reader of a trace line gives, in terms of how traces are spelled. So no two traces are spelled alike.
 use mathlib.Core.Path.{_≡_, refl, ap, sym, _∙_}
-use mathlib.Core.Bool.{Bool, true, false, _||_}
+use mathlib.Core.Bool.{Bool, true, false, _&&_, _||_}
+use mathlib.Core.Option.{none, some}
 use mathlib.Core.List.{List, [], _∷_, _++_, append-nil, append-cancel-left, head-eq-of-cons-eq, tail-eq-of-cons-eq}
 use Prim.Native.Nat.{ℕ, suc, _+_, _<_, _≤_}
 use native.Mathlib.Omega.{arith}
-use borrow.Author.Tests.{lt-ltb, le-ltb}
+use borrow.Author.Tests.{lt-leb, le-leb}
 use lib.ListN.{length, drop}
 use lib.Seq.{sets, drop-length}
-use lib.Dec.{ltb}
+use lib.Dec.{leb}
 use Rattle.table.specs.Answer.{refused}
 use Rattle.lines.specs.Text.{text}
-use Rattle.lines.specs.Spelling.{traceLine}
+use Rattle.lines.specs.Spelling.{Trace, traceLine, lineOfTrace}
 use Rattle.lines.specs.Limits.{mostBytes}
-use Rattle.lines.specs.TraceAnswer.{largeLetter, traceAnswer, traceList, TraceAnswer}
+use Rattle.lines.specs.Reading.{long, breaks, spells}
+use Rattle.lines.specs.TraceAnswer.{largeLetter, traceLimits, traceRefusal, TraceAnswer}
 use Rattle.lines.specs.Inner.Places.{byteAt, Stands, Agree, Language, Begins, Stops, StopsLine}
 use Rattle.lines.specs.Inner.LettersReader.{further, listed, Any, Some, Spelled, LettersStand, finiteRest, lassoRest, wholeLine, ListsStand, ListsRead}
 use Rattle.lines.specs.declared.traces.Lists.{Lists}
 use Rattle.lines.specs.declared.traces.Lists.the-variants.{Got, No}
-use Rattle.lines.specs.declared.traces.TraceLine.{TraceLine}
 use Rattle.lines.specs.declared.traces.TraceLine.the-variants.{Letters, Refused}
-use Rattle.lines.proofs.StoreLaw.{or-false, or-false-right}
+use Rattle.lines.proofs.ReadingLaw.{breaks-at, front-sets}
+use Rattle.lines.proofs.StoreLaw.{or-false, or-false-right, and-false}
 use Rattle.lines.proofs.PlaceLaw.{agree-self, agree-less, stands-one, stands-join, stops-here, halts-first, halts-after, stops-line, Nothing, stops-end}
 use Rattle.lines.proofs.LettersLaw.{further-unique, list-unique}
 
@@ -211,78 +213,76 @@ trace-injective lead (x ∷ loop) lead′ (y ∷ loop′) e =
     let (q, _) = list-unique (x ∷ loop) (y ∷ loop′) _ _ (append-cancel-left (text " (") _ _ d) in
     (p, q)
 
+abbrev trace : List ℕ → List ℕ → Trace
+trace lead loop = record { lead = lead; loop = loop }
+
+pub trace-alone : (t u : Trace) → lineOfTrace t ≡ lineOfTrace u → t ≡ u
+trace-alone t u e =
+    let (p, q) = trace-injective (t .lead) (t .loop) (u .lead) (u .loop) e in
+    ap (λ (x : List ℕ). trace x (t .loop)) p ∙ ap (trace (u .lead)) q
+
 -- ── The answer ──
 
 pub too-long : (s l m : List ℕ) → mostBytes < length s → TraceAnswer s l m (Refused (refused 17)) l m
-too-long s l m h = record { long = λ _. (refl, refl, refl); stray = λ g z. absurd (omega arith); spelt = λ g a b e. absurd (omega arith) }
+too-long s l m h = (record { reading = long h; reason = refl }, refl, refl)
 
 pub no-trace : (s l m : List ℕ) {p : ℕ} → length s ≤ mostBytes → StopsLine (Both wholeLine) s 0 p → TraceAnswer s l m (Refused (refused 18)) l m
 no-trace s l m {p} h a =
-    record {
-      long = λ g. absurd (omega arith);
-      stray = λ g z. (refl, refl, refl);
-      spelt = λ g lead loop e. absurd (a .none s (agree-self (suc p) s) (lead, loop, e));
-    }
-
-answers : (s l m l′ m′ : List ℕ) (r : TraceLine) (lead loop : List ℕ) → length s ≤ mostBytes → s ≡ traceLine lead loop
-    → r ≡ traceAnswer lead loop (length l) (length m) → l′ ≡ traceList r lead l → m′ ≡ traceList r loop m → TraceAnswer s l m r l′ m′
-answers s l m l′ m′ r lead loop h e v w u =
-    record {
-      long = λ q. absurd (omega arith);
-      stray = λ q z. absurd (z lead loop e);
-      spelt = λ q a b d.
-          let (i, j) = trace-injective lead loop a b (sym e ∙ d) in (
-            v ∙ ap (λ (x : List ℕ). traceAnswer x loop (length l) (length m)) i ∙ ap (λ (x : List ℕ). traceAnswer a x (length l) (length m)) j,
-            w ∙ ap (λ (x : List ℕ). traceList r x l) i,
-            u ∙ ap (λ (x : List ℕ). traceList r x m) j,
-          );
-    }
-
-or-right : (x y : Bool) → y ≡ true → (x || y) ≡ true
-or-right true y e = refl
-or-right false y e = e
+    (record { reading = breaks h p (breaks-at (λ w (lead, loop, e). (trace lead loop, e)) (λ t. (t .lead, t .loop, refl)) a); reason = refl }, refl, refl)
 
 -- The line spells lead and loop, of a and b letters; c to d′ are the lists of the reading without room.
 module _ {s : List ℕ} (l m lead loop : List ℕ) {a b : ℕ} {large : Bool} {c d c′ d′ : List ℕ} (h : length s ≤ mostBytes) (e : s ≡ traceLine lead loop)
     (x : ListsStand lead loop a b large c d c′ d′) where
+  abbrev t : Trace
+  t = trace lead loop
+
+  refuses : (n : ℕ) → traceRefusal (length l) (length m) t ≡ some (refused n) → TraceAnswer s l m (Refused (refused n)) l m
+  refuses n o = (record { reading = spells h t e; reason = o }, refl, refl)
+
   pub large-letter : large ≡ true → TraceAnswer s l m (Refused (refused 21)) l m
-  large-letter i = answers s l m l m (Refused (refused 21)) lead loop h e (rw (sym (x .wide) ∙ i)) refl refl
+  unfolding traceLimits traceRefusal
+  large-letter i = refuses 21 (rw (sym (x .wide) ∙ i))
 
   module _ (i : large ≡ false) where
     small : (largeLetter lead || largeLetter loop) ≡ false
     small = sym (x .wide) ∙ i
 
     pub many-letters : 64 < a + b → TraceAnswer s l m (Refused (refused 22)) l m
-    many-letters j =
-        answers s l m l m (Refused (refused 22)) lead loop h e
-        (rw (small, lt-ltb 64 (length lead + length loop) (omega (arith, x .leads, x .loops)))) refl refl
+    unfolding traceLimits traceRefusal
+    many-letters j = refuses 22 (rw (small, lt-leb (length lead + length loop) 64 (omega (arith, x .leads, x .loops))))
 
     module _ (j : a + b ≤ 64) where
-      few : ltb 64 (length lead + length loop) ≡ false
-      few = le-ltb 64 (length lead + length loop) (omega (arith, x .leads, x .loops))
+      few : leb (length lead + length loop) 64 ≡ true
+      few = le-leb (length lead + length loop) 64 (omega (arith, x .leads, x .loops))
 
       pub no-room-lead : length l < a → TraceAnswer s l m (Refused (refused 23)) l m
-      no-room-lead k =
-          answers s l m l m (Refused (refused 23)) lead loop h e (rw (small, few, lt-ltb (length l) (length lead) (omega (arith, x .leads)))) refl refl
+      unfolding traceLimits traceRefusal
+      no-room-lead k = refuses 23 (rw (small, few, lt-leb (length lead) (length l) (omega (arith, x .leads))))
 
       pub no-room-loop : length m < b → TraceAnswer s l m (Refused (refused 23)) l m
+      unfolding traceLimits traceRefusal
       no-room-loop k =
-          let short = lt-ltb (length m) (length loop) (omega (arith, x .loops)) in
-          answers s l m l m (Refused (refused 23)) lead loop h e
-          (rw (small, few, or-right (ltb (length l) (length lead)) (ltb (length m) (length loop)) short)) refl refl
+          refuses 23 (rw (small, few, and-false (leb (length lead) (length l)) (leb (length loop) (length m)) (lt-leb (length loop) (length m) (omega (arith, x .loops)))))
 
-      pub letters-read : a ≤ length l → b ≤ length m → (l′ m′ : List ℕ) (r : Lists) → ListsRead wholeLine s 0 l m l′ m′ r
-          → TraceAnswer s l m (Letters a b) l′ m′
-      letters-read k n l′ m′ r y =
-          let (p, q) = go r y in
-          answers s l m l′ m′ (Letters a b) lead loop h e
-          (ap (λ (z : ℕ). Letters z b) (x .leads) ∙ ap (λ (z : ℕ). Letters (length lead) z) (x .loops)
-          ∙ rw (small, few, le-ltb (length l) (length lead) (omega (arith, x .leads)), le-ltb (length m) (length loop) (omega (arith, x .loops))) refl)
-          p q
-        where
-          go : (r : Lists) → ListsRead wholeLine s 0 l m l′ m′ r → (l′ ≡ sets l 0 lead) × (m′ ≡ sets m 0 loop)
-          go (No p) z = absurd (z .none s (agree-self (suc p) s) (lead, loop, e))
-          go (Got p q w) (lead′, loop′, f, z) =
-              let (u, v) = trace-injective lead loop lead′ loop′ (sym e ∙ f) in
-              let (y, t) = z .written (z .wide ∙ ap (λ (i : List ℕ). largeLetter i || largeLetter loop′) (sym u) ∙ ap (λ (i : List ℕ). largeLetter lead || largeLetter i) (sym v) ∙ small) in
-              (y ∙ ap (sets l 0) (sym u), t ∙ ap (sets m 0) (sym v))
+      module _ (k : a ≤ length l) (n : b ≤ length m) where
+        room : traceRefusal (length l) (length m) t ≡ none
+        unfolding traceLimits traceRefusal
+        room = rw (small, few, le-leb (length lead) (length l) (omega (arith, x .leads)), le-leb (length loop) (length m) (omega (arith, x .loops)))
+
+        pub letters-read : (l′ m′ : List ℕ) (r : Lists) → ListsRead wholeLine s 0 l m l′ m′ r → TraceAnswer s l m (Letters a b) l′ m′
+        letters-read l′ m′ r y =
+            let (p, q) = go r y in (
+              t,
+              record { short = h; is = e; within = room },
+              x .leads,
+              x .loops,
+              p ∙ front-sets lead l (omega (arith, x .leads)),
+              q ∙ front-sets loop m (omega (arith, x .loops)),
+            )
+          where
+            go : (r : Lists) → ListsRead wholeLine s 0 l m l′ m′ r → (l′ ≡ sets l 0 lead) × (m′ ≡ sets m 0 loop)
+            go (No p) z = absurd (z .none s (agree-self (suc p) s) (lead, loop, e))
+            go (Got p q w) (lead′, loop′, f, z) =
+                let (u, v) = trace-injective lead loop lead′ loop′ (sym e ∙ f) in
+                let (y, t) = z .written (z .wide ∙ ap (λ (i : List ℕ). largeLetter i || largeLetter loop′) (sym u) ∙ ap (λ (i : List ℕ). largeLetter lead || largeLetter i) (sym v) ∙ small) in
+                (y ∙ ap (sets l 0) (sym u), t ∙ ap (sets m 0) (sym v))

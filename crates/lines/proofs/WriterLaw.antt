@@ -8,60 +8,108 @@ use native.Mathlib.Numerals.{add-one}
 use borrow.Author.Tests.{ltb-true, ltb-false}
 use lib.Dec.{ltb}
 use lib.ListN.{length, getD, set, take, length-append, List·getD-eq-default}
-use lib.Seq.{sets, take-suc, take-all, length-take-le}
+use lib.Seq.{sets, set-out, length-sets, sets-eq, take-at, take-suc, take-all}
 use Rattle.table.specs.Node.{node}
 use Rattle.table.proofs.KindLaw.{_⨾_, each}
 use Rattle.lines.specs.Text.{text}
 use Rattle.lines.specs.Spelling.{digits, ending, ltlWord, ltlPlaces, nodeLine}
-use Rattle.lines.specs.Inner.Writer.{Wrote, spaced}
+use Rattle.lines.specs.Inner.Writer.{Wrote, pair, spaced}
 use Rattle.lines.proofs.StoreLaw.{sets-sets}
 use Rattle.lines.proofs.NumberLaw.{digits-small, digits-more, digits-short}
 
+-- ── Room ──
+
+sets-out : (w l : List ℕ) (i : ℕ) → length l ≤ i → sets l i w ≡ l
+sets-out [] l i h = refl
+sets-out (x ∷ w) l i h = ap (λ (y : List ℕ). sets y (suc i) w) (set-out l i x h) ∙ sets-out w l (suc i) (omega arith)
+
+module _ {w l m : List ℕ} {at next : ℕ} (a : Wrote w l m at next) where
+  pub wrote-length : length m ≡ length l
+  wrote-length = ap length (a .is) ∙ length-sets l at w
+
+  -- All bytes have room.
+  pub wrote-fits : at + length w ≤ length l → next ≡ at + length w
+  wrote-fits h = omega (arith, a .ends)
+
+  -- A place before the list's end tells that all bytes had room.
+  pub wrote-room : next < length l → at + length w ≤ length l
+  wrote-room h = omega (arith, a .ends)
+
+  pub wrote-end : next ≤ at + length w
+  wrote-end = omega (arith, a .ends)
+
+-- Bytes put at the front are the front.
+pub wrote-front : {w l m : List ℕ} {n : ℕ} → Wrote w l m 0 n → length w ≤ length l → take n m ≡ w
+wrote-front {w} {l} {m} {n} a h =
+    ap (take n) (a .is ∙ sets-eq w l 0 (omega arith)) ∙ take-at w _ n (omega (arith, a .ends))
+
+-- Where not all of v has room, both places are past the list's end, and from neither is anything stored.
+from-end : {v l m : List ℕ} {at next : ℕ} (w : List ℕ) → Wrote v l m at next → sets m next w ≡ sets m (at + length v) w
+from-end {v} {l} {m} {at} {next} w a = go (ltb (length l) (at + length v)) refl
+  where
+    go : (b : Bool) → ltb (length l) (at + length v) ≡ b → sets m next w ≡ sets m (at + length v) w
+    go true e =
+        let h : length l < at + length v = ltb-true _ _ e in
+        sets-out w m next (omega (arith, a .ends, wrote-length a)) ∙ sym (sets-out w m (at + length v) (omega (arith, wrote-length a)))
+    go false e = ap (λ (i : ℕ). sets m i w) (wrote-fits a (ltb-false _ _ e))
+
+-- Bytes after bytes.
 pub wrote-join : {v w l m n : List ℕ} {i j k : ℕ} → Wrote v l m i j → Wrote w m n j k → Wrote (v ++ w) l n i k
 wrote-join {v} {w} {l} {m} {n} {i} {j} {k} a b =
     record {
-      is = b .is ∙ ap (λ (x : List ℕ). sets x j w) (a .is) ∙ sets-sets v w l i j (sym (a .ends));
-      ends = omega (arith, a .ends, b .ends, length-append v w);
+      is = b .is ∙ from-end w a ∙ ap (λ (x : List ℕ). sets x (i + length v) w) (a .is) ∙ sets-sets v w l i (i + length v) refl;
+      ends = rw (length-append v w) (omega (arith, a .ends, b .ends, wrote-length a));
     }
+
+pub wrote-none : {l : List ℕ} {at : ℕ} → Wrote [] l l at at
+wrote-none = record { is = refl; ends = omega arith }
 
 -- ── Bytes one by one ──
 
--- The first i bytes of w have been stored.
-pub record Stored (w l m : List ℕ) (at i : ℕ) : Type 0 where
-  pub within : i ≤ length w
-  pub is : m ≡ sets l at (take i w)
+pub byte-out : {l : List ℕ} {at : ℕ} (b : ℕ) → length l ≤ at → Wrote (b ∷ []) l l at at
+byte-out {l} {at} b h = record { is = sym (set-out l at b h); ends = omega arith }
 
-pub stored-more : {w l m n : List ℕ} {at i : ℕ} → i < length w → Stored w l m at i → n ≡ set m (at + i) (getD w i 0) → Stored w l n at (i + 1)
-stored-more {w} {l} {m} {n} {at} {i} h a e =
+-- The first i bytes of w have been put.
+pub record Stored (w l m : List ℕ) (at i next : ℕ) : Type 0 where
+  pub within : i ≤ length w
+  pub first : Wrote (take i w) l m at next
+
+pub stored-more : {w l m n : List ℕ} {at i j k : ℕ} → i < length w → Stored w l m at i j → Wrote (getD w i 0 ∷ []) m n j k → Stored w l n at (i + 1) k
+stored-more {w} {l} {m} {n} {at} {i} {j} {k} h a b =
     record {
       within = omega arith;
-      is = e ∙ ap (λ (x : List ℕ). set x (at + i) (getD w i 0)) (a .is)
-          ∙ sets-sets (take i w) (getD w i 0 ∷ []) l at (at + i) (ap (λ (j : ℕ). at + j) (length-take-le i w (a .within)))
-          ∙ ap (sets l at) (sym (ap (λ (j : ℕ). take j w) (add-one i) ∙ take-suc w i 0 h));
+      first = subst (λ (v : List ℕ). Wrote v l n at k) (sym (ap (λ (j : ℕ). take j w) (add-one i) ∙ take-suc w i 0 h)) (wrote-join (a .first) b);
     }
 
-pub stored-all : {w l m : List ℕ} {at i : ℕ} → length w ≤ i → Stored w l m at i → Wrote w l m at (at + i)
-stored-all {w} {l} {m} {at} {i} h a =
-    record { is = a .is ∙ ap (sets l at) (take-all i w h); ends = omega (arith, a .within) }
+pub stored-all : {w l m : List ℕ} {at i next : ℕ} → length w ≤ i → Stored w l m at i next → Wrote w l m at next
+stored-all {w} {l} {m} {at} {i} {next} h a = subst (λ (v : List ℕ). Wrote v l m at next) (take-all i w h) (a .first)
 
 -- ── Numbers ──
 
-pub one-digit : {l m : List ℕ} {at : ℕ} (n : ℕ) → n < 10 → m ≡ set l at (48 + n) → Wrote (digits n) l m at (at + 1)
-one-digit n h e = rw (digits-small n h) (record { is = e; ends = refl })
+pub one-digit : {l m : List ℕ} {at next : ℕ} (n : ℕ) → n < 10 → Wrote ((48 + n) ∷ []) l m at next → Wrote (digits n) l m at next
+one-digit n h a = rw (digits-small n h) a
 
-pub last-digit : {l m m′ : List ℕ} {at p : ℕ} (n : ℕ) → 10 ≤ n → Wrote (digits (n / 10)) l m at p → m′ ≡ set m p (48 + n % 10)
-    → Wrote (digits n) l m′ at (p + 1)
-last-digit {l} {m} {m′} {at} {p} n h a e =
-    let d : digits n ≡ digits (n / 10) ++ ((48 + n % 10) ∷ []) =
-    ap digits (omega arith) ∙ digits-more (n / 10) (n % 10) (omega arith) (omega arith) in
-    rw d (wrote-join a (record { is = e; ends = refl }))
+-- All digits but the last, and the last.
+digits-last : (n : ℕ) → 10 ≤ n → digits n ≡ digits (n / 10) ++ ((48 + n % 10) ∷ [])
+digits-last n h = ap digits (omega arith) ∙ digits-more (n / 10) (n % 10) (omega arith) (omega arith)
 
-pub number-end : {l m : List ℕ} {at p n : ℕ} → n < 18446744073709551616 → Wrote (digits n) l m at p → p ≤ at + 20
-number-end {n = n} h a = omega (arith, a .ends, digits-short 19 n (omega arith))
+pub two-digits : {l m : List ℕ} {at next : ℕ} (n : ℕ) → 10 ≤ n → n < 100 → Wrote (pair n) l m at next → Wrote (digits n) l m at next
+two-digits {l} {m} {at} {next} n h g a =
+    let d : digits n ≡ pair n =
+    digits-last n h ∙ ap (λ (x : List ℕ). x ++ ((48 + n % 10) ∷ [])) (digits-small (n / 10) (omega arith))
+    ∙ ap (λ (k : ℕ). (48 + k) ∷ (48 + n % 10) ∷ []) (omega arith) in
+    rw d a
+
+pub last-pair : {l m m′ : List ℕ} {at p next : ℕ} (n : ℕ) → 100 ≤ n → Wrote (digits (n / 100)) l m at p → Wrote (pair n) m m′ p next → Wrote (digits n) l m′ at next
+last-pair n h a b =
+    let d : digits n ≡ digits (n / 100) ++ pair n =
+    digits-last n (omega arith) ∙ ap (λ (x : List ℕ). x ++ ((48 + n % 10) ∷ [])) (digits-last (n / 10) (omega arith))
+    ∙ append-assoc (digits (n / 10 / 10)) _ _ ∙ ap (λ (k : ℕ). digits k ++ pair n) (omega arith) in
+    rw d (wrote-join a b)
 
 module _ {l : List ℕ} {at : ℕ} (n p q : ℕ) where
   pub no-number : n ≡ 0 → Wrote (spaced n p q) l l at at
-  no-number e = rw e (record { is = refl; ends = omega arith })
+  no-number e = rw e wrote-none
 
   module _ {m m′ : List ℕ} {a b : ℕ} (s : Wrote (text " ") l m at a) (f : Wrote (digits p) m m′ a b) where
     pub one-number : n ≡ 1 → Wrote (spaced n p q) l m′ at b
@@ -91,7 +139,7 @@ no-letters k h =
     List·getD-eq-default (text "true" ∷ text "var" ∷ text "not" ∷ text "and" ∷ text "or" ∷ text "next" ∷ text "until" ∷ []) [] h
 
 pub no-word : {l : List ℕ} {at : ℕ} (k : ℕ) → 7 ≤ k → Wrote (ltlWord k) l l at at
-no-word {l} {at} k h = subst (λ (w : List ℕ). Wrote w l l at at) (sym (no-letters k h)) (record { is = refl; ends = omega arith })
+no-word {l} {at} k h = subst (λ (w : List ℕ). Wrote w l l at at) (sym (no-letters k h)) wrote-none
 
 pub no-places : (k : ℕ) → 7 ≤ k → 0 ≡ ltlPlaces k
 unfolding ltlPlaces
@@ -107,16 +155,10 @@ word-length k = go (ltb k 7) refl
         (omega arith ⨾ omega arith ⨾ omega arith ⨾ omega arith ⨾ omega arith ⨾ omega arith ⨾ omega arith ⨾ tt) k (ltb-true k 7 e)
     go false e = subst (λ (w : List ℕ). length w ≤ 5) (sym (no-letters k (ltb-false k 7 e))) (omega arith)
 
-pub word-end : {l m : List ℕ} {at p : ℕ} (k : ℕ) → Wrote (ltlWord k) l m at p → p ≤ at + 5
-word-end k a = omega (arith, a .ends, word-length k)
-
 spaced-length : (n p q : ℕ) → p < 65536 → q < 65536 → length (spaced n p q) ≤ 12
 spaced-length zero p q h g = omega arith
 spaced-length (suc zero) p q h g = omega (arith, digits-short 4 p (omega arith))
 spaced-length (suc (suc n)) p q h g = simp length-append (omega (arith, digits-short 4 p (omega arith), digits-short 4 q (omega arith)))
-
-pub numbers-end : {l m : List ℕ} {at e : ℕ} (n p q : ℕ) → p < 65536 → q < 65536 → Wrote (spaced n p q) l m at e → e ≤ at + 12
-numbers-end n p q h g a = omega (arith, a .ends, spaced-length n p q h g)
 
 ending-spaced : (n p q : ℕ) (t : List ℕ) → ending (map digits (take n (p ∷ q ∷ []))) ++ t ≡ spaced n p q ++ (41 ∷ t)
 ending-spaced zero p q t = refl

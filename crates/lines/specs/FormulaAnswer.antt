@@ -1,19 +1,22 @@
 -- What the reader of a formula line answers.
 use mathlib.Core.Path.{_≡_}
-use mathlib.Core.Bool.{Bool, false, cond, _&&_, _||_}
+use mathlib.Core.Bool.{Bool, false, not, _&&_, _||_}
+use mathlib.Core.Option.{Option, none}
 use mathlib.Core.List.{List, [], _∷_}
-use Prim.Native.Nat.{ℕ, _*_, _≤_, _<_}
+use Prim.Native.Nat.{ℕ, _*_}
 use lib.ListN.{length}
-use lib.Seq.{sets}
-use lib.Dec.{eqb, leb, ltb}
+use lib.Dec.{eqb, leb}
 use Rattle.trace.specs.Letter.{signals}
+use Rattle.trace.specs.declared.Refusal.{Refusal}
 use Rattle.table.specs.Node.{Node, node, numbersOf}
 use Rattle.table.specs.Answer.{refused}
+use Rattle.table.specs.Check.{unless, orElse}
 use Rattle.psl.specs.Formula.{Formula}
 use Rattle.psl.specs.Check.{pslRules}
 use Rattle.lines.specs.Spelling.{formulaLine}
 use Rattle.lines.specs.Closing.{table}
-use Rattle.lines.specs.Limits.{mostBytes}
+use Rattle.lines.specs.Limits.{front}
+use Rattle.lines.specs.Reading.{Takes, Refuses}
 use Rattle.lines.specs.declared.formula.Line.{Line}
 use Rattle.lines.specs.declared.formula.Line.the-variants.{Nodes, Refused}
 
@@ -22,22 +25,17 @@ abbrev pub largeSignal : List Node → Bool
 largeSignal [] = false
 largeSignal (node k l r ∷ ns) = (eqb k 1 && leb signals l) || largeSignal ns
 
--- The answer to a line of the shape, by the nodes of its formula's table and the room of the lent list.
-abbrev pub formulaAnswer : List Node → ℕ → Line
-formulaAnswer ns room =
-    cond (ltb (pslRules .most) (length ns)) (Refused (refused 19))
-    (cond (largeSignal ns) (Refused (refused 20))
-    (cond (ltb room (3 * length ns)) (Refused (refused 23))
-    (Nodes (length ns))))
+-- 19: more nodes than a PSL table may have. 20: a signal that is none.
+unfoldable pub formulaLimits : Formula → Option Refusal
+formulaLimits f = unless (leb (length (table f)) (pslRules .most)) (refused 19) (unless (not (largeSignal (table f))) (refused 20) none)
 
--- The lent list l afterwards: the table at its front, or as it was.
-abbrev pub formulaList : Line → List Node → List ℕ → List ℕ
-formulaList (Nodes n) ns l = sets l 0 (numbersOf ns)
-formulaList (Refused e) ns l = l
+-- Then 23: the lent list has no room for the table.
+unfoldable pub formulaRefusal : ℕ → Formula → Option Refusal
+formulaRefusal room f = orElse (formulaLimits f) (unless (leb (3 * length (table f)) room) (refused 23) none)
 
--- The answer r and the list m, for the line s and the list l.
-pub record FormulaAnswer (s l : List ℕ) (r : Line) (m : List ℕ) : Type 0 where
-  pub long : mostBytes < length s → (r ≡ Refused (refused 17)) × (m ≡ l)
-  pub stray : length s ≤ mostBytes → ((f : Formula) → s ≡ formulaLine f → ⊥) → (r ≡ Refused (refused 18)) × (m ≡ l)
-  pub spelt : length s ≤ mostBytes → (f : Formula) → s ≡ formulaLine f
-      → (r ≡ formulaAnswer (table f) (length l)) × (m ≡ formulaList r (table f) l)
+-- The answer and the list m at exit, for the line s and the list l at entry: the formula's table in front of the list, or the refusal and the list as
+-- it was.
+abbrev pub FormulaAnswer : List ℕ → List ℕ → Line → List ℕ → Type 0
+FormulaAnswer s l (Nodes n) m =
+    (f : Formula) × Takes formulaLine (formulaRefusal (length l)) s f × (n ≡ length (table f)) × (m ≡ front (numbersOf (table f)) l)
+FormulaAnswer s l (Refused e) m = Refuses formulaLine (formulaRefusal (length l)) s e × (m ≡ l)

@@ -2,7 +2,9 @@ pub mod Text
 pub mod Spelling
 pub mod Closing
 pub mod Limits
+pub mod Reading
 pub mod FormulaAnswer
 pub mod TraceAnswer
 pub mod NodeAnswer
+pub mod Claims
 pub mod Inner

@@ -55,10 +55,18 @@ formulaLine f = brackets (text "psl" ∷ spell f ∷ [])
 
 -- ── Traces ──
 
+-- A trace as a line has it: its lead-in and its loop.
+pub record Trace : Type 0 where
+  pub lead : List ℕ
+  pub loop : List ℕ
+
 -- A trace line, of a lead-in and a loop.
 abbrev pub traceLine : List ℕ → List ℕ → List ℕ
 traceLine lead [] = brackets (text "finite" ∷ map digits lead)
 traceLine lead (x ∷ loop) = brackets (text "lasso" ∷ brackets (map digits lead) ∷ brackets (map digits (x ∷ loop)) ∷ [])
+
+abbrev pub lineOfTrace : Trace → List ℕ
+lineOfTrace t = traceLine (t .lead) (t .loop)
 
 -- ── Nodes of an LTL table ──
 

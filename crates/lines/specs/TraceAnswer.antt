@@ -1,16 +1,19 @@
 -- What the reader of a trace line answers.
 use mathlib.Core.Path.{_≡_}
-use mathlib.Core.Bool.{Bool, false, cond, _||_}
+use mathlib.Core.Bool.{Bool, false, not, _&&_, _||_}
+use mathlib.Core.Option.{Option, none}
 use mathlib.Core.List.{List, [], _∷_}
-use Prim.Native.Nat.{ℕ, _^_, _≤_, _<_}
+use Prim.Native.Nat.{ℕ, _^_}
 use lib.ListN.{length}
-use lib.Seq.{sets}
-use lib.Dec.{leb, ltb}
+use lib.Dec.{leb}
 use Rattle.trace.specs.Letter.{signals, mostLetters}
 use Rattle.trace.specs.Moments.{size}
+use Rattle.trace.specs.declared.Refusal.{Refusal}
 use Rattle.table.specs.Answer.{refused}
-use Rattle.lines.specs.Spelling.{traceLine}
-use Rattle.lines.specs.Limits.{mostBytes}
+use Rattle.table.specs.Check.{unless, orElse}
+use Rattle.lines.specs.Spelling.{Trace, lineOfTrace}
+use Rattle.lines.specs.Limits.{front}
+use Rattle.lines.specs.Reading.{Takes, Refuses}
 use Rattle.lines.specs.declared.traces.TraceLine.{TraceLine}
 use Rattle.lines.specs.declared.traces.TraceLine.the-variants.{Letters, Refused}
 
@@ -19,22 +22,21 @@ abbrev pub largeLetter : List ℕ → Bool
 largeLetter [] = false
 largeLetter (x ∷ xs) = leb (2 ^ signals) x || largeLetter xs
 
--- The answer to a line of the shape, by its lead-in and loop and the room of the two lent lists.
-abbrev pub traceAnswer : List ℕ → List ℕ → ℕ → ℕ → TraceLine
-traceAnswer lead loop room roomLoop =
-    cond (largeLetter lead || largeLetter loop) (Refused (refused 21))
-    (cond (ltb mostLetters (size lead loop)) (Refused (refused 22))
-    (cond (ltb room (length lead) || ltb roomLoop (length loop)) (Refused (refused 23))
-    (Letters (length lead) (length loop))))
+-- 21: a number that is no letter. 22: more letters than a verdict takes.
+unfoldable pub traceLimits : Trace → Option Refusal
+traceLimits t =
+    unless (not (largeLetter (t .lead) || largeLetter (t .loop))) (refused 21)
+    (unless (leb (size (t .lead) (t .loop)) mostLetters) (refused 22) none)
 
--- A lent list l afterwards: the letters xs at its front, or as it was.
-abbrev pub traceList : TraceLine → List ℕ → List ℕ → List ℕ
-traceList (Letters a b) xs l = sets l 0 xs
-traceList (Refused e) xs l = l
+-- Then 23: a lent list has no room for its letters.
+unfoldable pub traceRefusal : ℕ → ℕ → Trace → Option Refusal
+traceRefusal room roomLoop t =
+    orElse (traceLimits t) (unless (leb (length (t .lead)) room && leb (length (t .loop)) roomLoop) (refused 23) none)
 
--- The answer r and the lists l′ and m′, for the line s and the lists l and m.
-pub record TraceAnswer (s l m : List ℕ) (r : TraceLine) (l′ m′ : List ℕ) : Type 0 where
-  pub long : mostBytes < length s → (r ≡ Refused (refused 17)) × (l′ ≡ l) × (m′ ≡ m)
-  pub stray : length s ≤ mostBytes → ((lead loop : List ℕ) → s ≡ traceLine lead loop → ⊥) → (r ≡ Refused (refused 18)) × (l′ ≡ l) × (m′ ≡ m)
-  pub spelt : length s ≤ mostBytes → (lead loop : List ℕ) → s ≡ traceLine lead loop
-      → (r ≡ traceAnswer lead loop (length l) (length m)) × (l′ ≡ traceList r lead l) × (m′ ≡ traceList r loop m)
+-- The answer and the lists l′ and m′ at exit, for the line s and the lists l and m at entry: the letters in front of the lists, or the refusal and the
+-- lists as they were.
+abbrev pub TraceAnswer : List ℕ → List ℕ → List ℕ → TraceLine → List ℕ → List ℕ → Type 0
+TraceAnswer s l m (Letters a b) l′ m′ =
+    (t : Trace) × Takes lineOfTrace (traceRefusal (length l) (length m)) s t × (a ≡ length (t .lead)) × (b ≡ length (t .loop))
+    × (l′ ≡ front (t .lead) l) × (m′ ≡ front (t .loop) m)
+TraceAnswer s l m (Refused e) l′ m′ = Refuses lineOfTrace (traceRefusal (length l) (length m)) s e × (l′ ≡ l) × (m′ ≡ m)

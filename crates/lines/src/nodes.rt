@@ -7,7 +7,6 @@ use table::NodeNo;
 use table::check_node;
 use trace::Refusal;
 ghost use mathlib.Core.Path.{_≡_};
-ghost use Prim.Native.Nat.{_≤_};
 ghost use lib.ListN.{length};
 ghost use mathlib.Core.Bool.{false};
 ghost use Rattle.table.specs.Node.{node};
@@ -21,9 +20,11 @@ ghost use Rattle.lines.specs.Inner.Writer.{Wrote, spaced};
 // The most nodes of an LTL table.
 const MOST_NODES: u16 = 4096;
 
+// Room for any node line; the longest has 26 bytes.
+const LINE_ROOM: usize = 32;
+
 // The word of a kind; none for a kind that there is not.
 fn put_word(out: &mut [u8], at: usize, kind: u16) -> usize
-    requires { ⌜ at ≤ 900000 ⌝ }
     ensures { λ r. ⌜ Wrote (ltlWord kind) (now (out .entry)) (now (out .exit)) at r ⌝ }
 {
     match kind {
@@ -50,7 +51,6 @@ fn places(kind: u16) -> u16
 
 // The first n of two numbers, a space before each.
 fn put_numbers(out: &mut [u8], at: usize, n: u16, p: u16, q: u16) -> usize
-    requires { ⌜ at ≤ 500000 ⌝ }
     ensures { λ r. ⌜ Wrote (spaced n p q) (now (out .entry)) (now (out .exit)) at r ⌝ }
 {
     if n == 0 {
@@ -67,7 +67,6 @@ fn put_numbers(out: &mut [u8], at: usize, n: u16, p: u16, q: u16) -> usize
 
 // A node's line.
 pub fn put_line(out: &mut [u8], at: usize, own: u16, kind: u16, left: u16, right: u16) -> usize
-    requires { ⌜ at ≤ 400000 ⌝ }
     ensures { λ r. ⌜ Wrote (nodeLine own (node kind left right)) (now (out .entry)) (now (out .exit)) at r ⌝ }
 {
     let a = put_text(out, at, b"(");
@@ -90,7 +89,7 @@ fn check_alone(no: NodeNo, kind: u16, left: u16, right: u16) -> Checked
     check_node(LTL, no, kind, left, right, false, false)
 }
 
-// A node's line into the lent bytes. It is written twice: first with no room, for its length.
+// A node's line into the lent bytes. It is written aside first, for its length.
 pub fn write_node(no: NodeNo, kind: u16, left: u16, right: u16, out: &mut [u8]) -> NodeLine
     ensures { λ x. ⌜ x ≡ nodeAnswer (no .0) (node kind left right) (length (now (out .entry))) ⌝ }
     ensures { λ x. ⌜ now (out .exit) ≡ nodeList x (nodeLine (no .0) (node kind left right)) (now (out .entry)) ⌝ }
@@ -102,12 +101,12 @@ pub fn write_node(no: NodeNo, kind: u16, left: u16, right: u16, out: &mut [u8]) 
     match check_alone(no, kind, left, right) {
         Checked::Refused(x) => NodeLine::Refused(x),
         Checked::Accepted => {
-            let mut none = [0u8; 1];
-            let n = put_line(&mut none, 0, own, kind, left, right);
+            let mut line = [0u8; LINE_ROOM];
+            let n = put_line(&mut line, 0, own, kind, left, right);
             if out.len() < n {
                 return NodeLine::Refused(Refusal(24));
             }
-            put_line(out, 0, own, kind, left, right);
+            put_text(out, 0, &line[..n]);
             NodeLine::Bytes(n)
         }
     }

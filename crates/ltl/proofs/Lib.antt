@@ -1,3 +1,4 @@
 pub mod KnownLaw
 pub mod CheckLaw
 pub mod AcceptedLaw
+pub mod ClaimsLaw

@@ -8,12 +8,11 @@ use table::SPARE;
 use table::Shape;
 use table::UNUSED;
 use trace::Refusal;
-ghost use mathlib.Core.Path.{_≡_};
-ghost use Rattle.table.specs.Answer.{checked};
 ghost use Prim.Native.Nat.{_<_};
 ghost use Rattle.table.specs.Node.{count};
 ghost use Rattle.table.specs.Check.{FirstRefused};
-ghost use Rattle.ltl.specs.Check.{ltlRules, ltlRefusal};
+ghost use Rattle.ltl.specs.Check.{ltlRules};
+ghost use Rattle.ltl.specs.Answer.{LtlChecks};
 
 // What stands left and right, kind by kind. All are formulas, so no operand is of the wrong sort, and that refusal has no number.
 pub const LTL: Rules = Rules {
@@ -70,7 +69,7 @@ fn first_refused(t: &[u16]) -> usize
 
 // Refusals 11 to 15.
 pub fn check_ltl(t: &[u16]) -> Checked
-    ensures { λ r. ⌜ r ≡ checked (ltlRefusal (now (t .entry))) ⌝ }
+    ensures { λ r. ⌜ LtlChecks (now (t .entry)) r ⌝ }
 {
     if !table::length_fits(LTL.most, t.len()) {
         return Checked::Refused(Refusal(11));

@@ -1,12 +1,15 @@
--- The end of a finite word: at its last letter next fails, and until is its second operand.
+-- The ends of a word: at its first letter weak is strong; at its last next fails, and until is its second operand.
 use Prim.Native.Nat.{ℕ, zero, suc, _<_}
 use mathlib.Core.Path.{_≡_, ap, subst, sym, fun-ext}
-use mathlib.Core.Logic.{_↔_}
+use mathlib.Core.Logic.{_↔_, inl, inr}
 use native.Mathlib.Omega.{arith}
 use native.Mathlib.Nat.{zero-add}
 use Rattle.trace.specs.Word.{Word, InWord, suffix}
-use Rattle.psl.specs.Formula.{Formula, next, until}
+use Rattle.psl.specs.Formula.{BoolExpr, Formula, weak, strong, next, until}
 use Rattle.psl.specs.Meaning.{Holds}
+
+pub weak-strong : (b : BoolExpr) (w : Word) → InWord w 0 → Holds (weak b) w ↔ Holds (strong b) w
+weak-strong b w i = (λ h. elim h [ inl x ↦ absurd (x i) | inr y ↦ (i, y) ], λ h. inr (h .1))
 
 abbrev Last : Word → Type 0
 Last w = (k : ℕ) → InWord w (suc k) → ⊥

@@ -6,3 +6,4 @@ pub mod CheckLaw
 pub mod PartLaw
 pub mod AcceptedLaw
 pub mod TreeLaw
+pub mod ClaimsLaw

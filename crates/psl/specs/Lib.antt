@@ -5,4 +5,6 @@ pub mod Table
 pub mod Parts
 pub mod Check
 pub mod Counts
+pub mod Answer
 pub mod Known
+pub mod Claims

@@ -18,6 +18,7 @@ ghost use Rattle.table.specs.Node.{count};
 ghost use Rattle.table.specs.Check.{masked, FirstRefused};
 ghost use Rattle.psl.specs.Check.{pslRules, one, treeRefusal, pslRefusal};
 ghost use Rattle.psl.specs.Counts.{Counted, Tallied};
+ghost use Rattle.psl.specs.Answer.{PslChecks};
 
 // What stands left and right, kind by kind. The first four kinds are Booleans, the others formulas.
 pub const PSL: Rules = Rules {
@@ -134,7 +135,7 @@ fn check_nodes(t: &[u16], c: &mut [u16]) -> Checked
 
 // Refusals 1 to 8. A small table has a small list of counts: it is cleared at each check.
 pub fn check_psl(t: &[u16]) -> Checked
-    ensures { λ r. ⌜ r ≡ checked (pslRefusal (now (t .entry))) ⌝ }
+    ensures { λ r. ⌜ PslChecks (now (t .entry)) r ⌝ }
 {
     if !table::length_fits(PSL.most, t.len()) {
         return Checked::Refused(Refusal(1));

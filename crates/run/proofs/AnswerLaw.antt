@@ -1,78 +1,166 @@
--- The bytes of a line that are kept are answered as the whole line is; an answer's tables have room.
-use mathlib.Core.Path.{_≡_, refl, subst}
-use mathlib.Core.Bool.{Bool, true, false}
+-- What the readers, the translator and the verdicts answer, in the terms of a run.
+use mathlib.Core.Path.{_≡_, refl, ap, sym, subst, _∙_}
 use mathlib.Core.Option.{Option, none, some}
 use mathlib.Core.List.{List}
-use Prim.Native.Nat.{ℕ, _*_, _≤_, _<_}
+use Prim.Native.Nat.{ℕ, _+_, _*_, _≤_, _<_}
 use native.Mathlib.Omega.{arith}
-use borrow.Author.Tests.{leb-true, ltb-true, ltb-false}
-use lib.Dec.{leb, ltb}
-use lib.ListN.{length, take}
-use lib.Seq.{take-all, length-take-le}
+use borrow.Author.Tests.{le-leb}
+use lib.Dec.{leb}
+use lib.ListN.{length, take, replicate, length-replicate}
+use Rattle.trace.specs.Letter.{mostLetters}
+use Rattle.trace.specs.Moments.{size}
 use Rattle.trace.specs.declared.Refusal.{Refusal}
 use Rattle.table.specs.Answer.{refused}
-use Rattle.table.specs.Check.{unless, orElse}
+use Rattle.table.specs.Node.{numbersOf}
+use Rattle.table.proofs.NodeLaw.{length-numbers}
+use Rattle.table.proofs.CheckLaw.{some-none}
+use Rattle.psl.specs.Formula.{Formula}
+use Rattle.psl.specs.Meaning.{HoldsOn}
 use Rattle.psl.specs.Table.{formulaOf}
-use Rattle.psl.specs.Check.{pslRefusal}
-use Rattle.translate.specs.Emitted.{emittedSize}
+use Rattle.psl.specs.Check.{pslRefusal, pslRules}
+use Rattle.ltl.specs.Meaning.{LtlHoldsOn}
+use Rattle.ltl.specs.Table.{treeOf}
+use Rattle.ltl.specs.Check.{ltlRefusal}
+use Rattle.translate.specs.Emitted.{emitted, emittedSize}
 use Rattle.translate.specs.Answer.{translateRefusal, answer, Delivers}
 use Rattle.translate.specs.declared.Translation.{Translation}
 use Rattle.translate.specs.declared.Translation.the-variants as Translation
-use Rattle.lines.specs.FormulaAnswer.{FormulaAnswer}
-use Rattle.lines.specs.TraceAnswer.{TraceAnswer}
-use Rattle.lines.specs.declared.formula.Line.{Line}
+use Rattle.translate.proofs.DeliversLaw.{size-most}
+use Rattle.translate.proofs.EmittedLaw.{emitted-accepted}
+use Rattle.verdict.specs.Verdict.{Judges, PslJudges, LtlJudges, pslVerdictRefusal, ltlVerdictRefusal}
+use Rattle.verdict.specs.declared.Verdict.{Verdict}
+use Rattle.verdict.specs.declared.Verdict.the-variants as Verdict
+use Rattle.verdict.proofs.JudgesLaw.{psl-fine, ltl-fine, ltl-empty}
+use Rattle.lines.specs.Spelling.{formulaLine, Trace, lineOfTrace}
+use Rattle.lines.specs.Closing.{table}
+use Rattle.lines.specs.Reading.{Takes, Refuses}
+use Rattle.lines.specs.FormulaAnswer.{formulaLimits, formulaRefusal, FormulaAnswer}
+use Rattle.lines.specs.TraceAnswer.{traceLimits, traceRefusal, TraceAnswer}
 use Rattle.lines.specs.declared.formula.Line.the-variants as Line
-use Rattle.run.specs.Run.{AfterReading, FirstAnswer, LaterAnswer}
-use Rattle.run.specs.Progress.{keptBytes}
-use Rattle.run.specs.declared.First.{First}
+use Rattle.lines.specs.declared.traces.TraceLine.the-variants as TraceLine
+use Rattle.lines.proofs.ReadingLaw.{takes-by, refuses-by, front-take, front-length}
+use Rattle.lines.proofs.LimitsLaw.{limits-few, limits-accepted, formula-room, limits-short, trace-room}
+use Rattle.lines.proofs.TableLaw.{table-formula}
+use Rattle.run.specs.Whole.{Tells, Judged, LaterAnswer}
+use Rattle.run.specs.Inner.{TablesOf, Accepted, FirstAnswer}
 use Rattle.run.specs.declared.First.the-variants as First
-use Rattle.run.specs.declared.Later.{Later}
-use Rattle.run.proofs.RunLaw.{nodes-few}
+use Rattle.run.specs.declared.Later.the-variants as Later
 
--- ── The kept bytes ──
+-- ── The tables of a formula within the limits ──
 
--- What holds of the kept bytes holds of the line where it holds of every line that is too long, if of one.
-same-answer : (P : List ℕ → Type 0) → ((s t : List ℕ) → 16384 < length s → 16384 < length t → P s → P t) → (s : List ℕ) → P (take keptBytes s) → P s
-same-answer P long s p = go (ltb keptBytes (length s)) refl
-  where
-    go : (b : Bool) → ltb keptBytes (length s) ≡ b → P s
-    go true e = let h = ltb-true keptBytes (length s) e in long (take keptBytes s) s (omega (arith, length-take-le keptBytes s (omega arith))) (omega arith) p
-    go false e = subst P (take-all keptBytes s (ltb-false keptBytes (length s) e)) p
+pub tables-accepted : {f : Formula} {psl ltl : List ℕ} → TablesOf f psl ltl → Accepted psl ltl
+tables-accepted {f} {psl} {ltl} a =
+    let t = numbersOf (table f) in
+    let e = limits-accepted f (a .limits) in
+    let g : emitted (formulaOf t) ≡ emitted f = ap emitted (table-formula f) in
+    (ap pslRefusal (a .read) ∙ e, ap ltlRefusal (a .translated ∙ sym g) ∙ emitted-accepted t e (omega (arith, size-most t e)))
 
-pub first-kept : {l m l′ m′ : List ℕ} {r : First} (s : List ℕ) → FirstAnswer (take keptBytes s) l m r l′ m′ → FirstAnswer s l m r l′ m′
-first-kept {l} {m} {l′} {m′} {r} s (a, f, t) =
-    (a, same-answer (λ s. FormulaAnswer s l a l′) (λ s t h g x. record { long = λ _. x .long h; stray = λ k _. absurd (omega arith); spelt = λ k _ _. absurd (omega arith) }) s f, t)
+-- ── Line 1 ──
 
-pub later-kept : {psl ltl : List ℕ} {r : Later} (s : List ℕ) → LaterAnswer (take keptBytes s) psl ltl r → LaterAnswer s psl ltl r
-later-kept {psl} {ltl} {r} s (a, l, m, f, t) =
-    (a, l, m, same-answer (λ s. TraceAnswer s _ _ a l m) (λ s t h g x. record { long = λ _. x .long h; stray = λ k _. absurd (omega arith); spelt = λ k _ _ _. absurd (omega arith) }) s f, t)
+module _ (line l m : List ℕ) (room : length l ≡ 3072) where
+  pub first-refused : {x : Refusal} → FormulaAnswer line l (Line.Refused x) m → Refuses formulaLine formulaLimits line x
+  first-refused (a, _) = refuses-by (λ f. formula-room f (length l) (omega arith)) a
 
--- ── The tables ──
+  module _ (n : ℕ) (a : FormulaAnswer line l (Line.Nodes n) m) where
+    abbrev f : Formula
+    f = a .0
 
--- An answer that is a size: nothing is refused.
-told-size : (p : Option Refusal) (b : Bool) (x : Refusal) (k s : ℕ) → Translation.Nodes s ≡ answer (orElse p (unless b x none)) k → (p ≡ none) × (b ≡ true) × (s ≡ k)
-told-size (some y) b x k s e = let z : _≡_ {A = ℕ} 0 1 = cc in absurd (omega arith)
-told-size none true x k s e = (refl, refl, cc)
-told-size none false x k s e = let z : _≡_ {A = ℕ} 0 1 = cc in absurd (omega arith)
+    pub first-taken : Takes formulaLine formulaLimits line f
+    first-taken = takes-by (λ g. formula-room g (length l) (omega arith)) (a .1)
 
-module _ {t l m : List ℕ} {s : ℕ} (d : Delivers t l (Translation.Nodes s) m) where
-  pub delivered : (pslRefusal t ≡ none) × (leb (3 * emittedSize (formulaOf t)) (length l) ≡ true) × (s ≡ emittedSize (formulaOf t))
-  unfolding translateRefusal
-  delivered = told-size (pslRefusal t) (leb (3 * emittedSize (formulaOf t)) (length l)) (refused 10) (emittedSize (formulaOf t)) s (d .answers)
+    pub first-few : (n ≤ 1024) × (3 * n ≤ length m)
+    first-few =
+        let few = limits-few f (first-taken .within) in
+        let counted = length-numbers (table f) in
+        (omega (arith, a .2), omega (arith, a .2, ap length (a .3) ∙ front-length (numbersOf (table f)) l (omega arith)))
 
-  size-few : 3 * s ≤ length l
-  size-few = let (_, b, e) = delivered in omega (arith, leb-true (3 * emittedSize (formulaOf t)) (length l) b, e)
+    pub first-table : take (3 * n) m ≡ numbersOf (table f)
+    first-table = ap (take (3 * n)) (a .3) ∙ front-take (numbersOf (table f)) l (3 * n) (omega (arith, a .2, length-numbers (table f)))
 
-after-few : {s l l′ : List ℕ} (m m′ : List ℕ) (n z : ℕ) (a : Line) → FormulaAnswer s l a l′ → AfterReading a l′ m m′ (First.Tables n z)
-    → (n ≤ 1024) × (3 * n ≤ length l′) × (3 * z ≤ length m)
-after-few m m′ n z (Line.Refused x) f (e, _) = let z : _≡_ {A = ℕ} 0 1 = cc in absurd (omega arith)
-after-few m m′ n z (Line.Nodes n′) f (Translation.Refused x, d, e) = let z : _≡_ {A = ℕ} 0 1 = cc in absurd (omega arith)
-after-few m m′ n z (Line.Nodes n′) f (Translation.Nodes z′, d, e) =
-    let p : n ≡ n′ = cc in
-    let q : z ≡ z′ = cc in
-    let few = nodes-few f in
-    (omega (arith, few .0, p), omega (arith, few .1, p), omega (arith, size-few d, q))
+    stands : formulaOf (take (3 * n) m) ≡ f
+    stands = ap formulaOf first-table ∙ table-formula f
 
--- The nodes that line 1 counts stand in its lists.
-pub first-few : (s l m l′ m′ : List ℕ) (n z : ℕ) → FirstAnswer s l m (First.Tables n z) l′ m′ → (n ≤ 1024) × (3 * n ≤ length l′) × (3 * z ≤ length m)
-first-few s l m l′ m′ n z (a, f, t) = after-few m m′ n z a f t
+    accepted : pslRefusal (take (3 * n) m) ≡ none
+    accepted = ap pslRefusal first-table ∙ limits-accepted f (first-taken .within)
+
+    -- There is room for every translation.
+    fits : (k : List ℕ) → length k ≡ 12288 → translateRefusal (take (3 * n) m) (length k) ≡ none
+    unfolding translateRefusal
+    fits k h =
+        let most = size-most (take (3 * n) m) accepted in
+        rw (accepted, le-leb (3 * emittedSize (formulaOf (take (3 * n) m))) (length k) (omega arith))
+
+    pub first-translated : {k k′ : List ℕ} {x : Refusal} → length k ≡ 12288 → Delivers (take (3 * n) m) k (Translation.Refused x) k′ → ⊥
+    first-translated {k} {x = x} h d =
+        let e : Translation.Refused x ≡ Translation.Nodes (emittedSize (formulaOf (take (3 * n) m))) =
+        d .answers ∙ ap (λ (o : Option Refusal). answer o (emittedSize (formulaOf (take (3 * n) m)))) (fits k h) in
+        let z : _≡_ {A = ℕ} 0 1 = cc in omega arith
+
+    pub first-tables : {k k′ : List ℕ} {s : ℕ} → Delivers (take (3 * n) m) k (Translation.Nodes s) k′ → FirstAnswer line (First.Tables n s) m k′
+    first-tables {s = s} d =
+        let out = d .succeeds s refl in (
+          f,
+          first-taken,
+          record { limits = first-taken .within; read = first-table; translated = out .is ∙ ap emitted stands },
+          omega (arith, first-few .0),
+          omega (arith, out .bounded),
+        )
+
+-- ── Later lines ──
+
+-- A verdict that nothing refuses.
+tells : {o : Option Refusal} (A : Type 0) (v : Verdict) → o ≡ none → Judges o A v → Tells A v
+tells A Verdict.Yes e (_, h) = h
+tells A Verdict.No e (_, h) = h
+tells A (Verdict.Refused x) e h = absurd (some-none (sym h ∙ e))
+
+refused-by : {o : Option Refusal} (A : Type 0) (v : Verdict) (x : Refusal) → o ≡ some x → Judges o A v → v ≡ Verdict.Refused x
+refused-by A Verdict.Yes x e (h, _) = absurd (some-none (sym e ∙ h))
+refused-by A Verdict.No x e (h, _) = absurd (some-none (sym e ∙ h))
+refused-by A (Verdict.Refused y) x e h = let q = sym h ∙ e in cc
+
+-- Lists with room for a trace that is not too long.
+abbrev pub room : List ℕ
+room = replicate mostLetters 0
+
+enough : mostLetters ≤ length room
+enough = omega (arith, length-replicate {A = ℕ} 64 0)
+
+module _ (line l m : List ℕ) where
+  pub later-refused : {x : Refusal} → TraceAnswer line room room (TraceLine.Refused x) l m → Refuses lineOfTrace traceLimits line x
+  later-refused (a, _, _) = refuses-by (λ t. trace-room t (length room) (length room) enough enough) a
+
+  module _ (a b : ℕ) (r : TraceAnswer line room room (TraceLine.Letters a b) l m) where
+    abbrev t : Trace
+    t = r .0
+
+    taken : Takes lineOfTrace traceLimits line t
+    taken = takes-by (λ u. trace-room u (length room) (length room) enough enough) (r .1)
+
+    short : size (t .lead) (t .loop) ≤ mostLetters
+    short = limits-short t (taken .within)
+
+    pub letters-few : (a ≤ length l) × (b ≤ length m)
+    letters-few = (
+      omega (arith, r .2, short, enough, ap length (r .4) ∙ front-length (t .lead) room (omega (arith, short, enough))),
+      omega (arith, r .3, short, enough, ap length (r .5) ∙ front-length (t .loop) room (omega (arith, short, enough))),
+    )
+
+    pub later-judged : {psl ltl : List ℕ} {v w : Verdict} → PslJudges psl (take a l) (take b m) v → LtlJudges ltl (take a l) (take b m) w
+        → (f : Formula) → TablesOf f psl ltl → LaterAnswer f line (Later.Verdicts v w)
+    later-judged {psl} {ltl} {v} {w} p q f s =
+        let lead : take a l ≡ t .lead = ap (take a) (r .4) ∙ front-take (t .lead) room a (r .2) in
+        let loop : take b m ≡ t .loop = ap (take b) (r .5) ∙ front-take (t .loop) room b (r .3) in
+        let (ok, ok′) = tables-accepted s in
+        let p′ = subst (λ (x : List ℕ). PslJudges psl x (t .loop) v) lead (subst (λ (x : List ℕ). PslJudges psl (take a l) x v) loop p) in
+        let q′ = subst (λ (x : List ℕ). LtlJudges ltl x (t .loop) w) lead (subst (λ (x : List ℕ). LtlJudges ltl (take a l) x w) loop q) in (
+          t,
+          taken,
+          record {
+            psl = subst (λ (g : Formula). Tells (HoldsOn g (t .lead) (t .loop)) v) (ap formulaOf (s .read) ∙ table-formula f)
+                (tells (HoldsOn (formulaOf psl) (t .lead) (t .loop)) v (psl-fine psl (t .lead) (t .loop) ok short) p′);
+            ltl = λ h. subst (λ (x : List ℕ). Tells (LtlHoldsOn (treeOf x) (t .lead) (t .loop)) w) (s .translated)
+                (tells (LtlHoldsOn (treeOf ltl) (t .lead) (t .loop)) w (ltl-fine ltl (t .lead) (t .loop) ok′ short h) q′);
+            empty = λ h. refused-by (LtlHoldsOn (treeOf ltl) (t .lead) (t .loop)) w (refused 16) (ltl-empty ltl (t .lead) (t .loop) ok′ short (omega arith)) q′;
+          },
+        )

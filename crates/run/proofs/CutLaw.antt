@@ -6,7 +6,7 @@ use native.Mathlib.Omega.{arith}
 use Prim.Native.Nat.{ℕ}
 use lib.Dec.{eqb}
 use Rattle.table.specs.Node.{_▸_}
-use Rattle.run.specs.Whole.{endedAfter, openAfter, endedLines, openLine, withLast, inputLines}
+use Rattle.run.specs.Input.{endedAfter, openAfter, endedLines, openLine, withLast, inputLines}
 
 -- ── Byte 10 ──
 

@@ -1,8 +1,7 @@
-pub mod RunLaw
+-- Laws that the proofs share.
 pub mod PrintedLaw
 pub mod CutLaw
 pub mod AnswerLaw
 pub mod ProgressLaw
-pub mod StepLaw
-pub mod EmittedLaw
-pub mod NoneLaw
+pub mod StreamLaw
+pub mod ClaimsLaw

@@ -1,253 +1,244 @@
 -- What each step of a run keeps of the relation between the input taken, the output and the state.
 use mathlib.Core.Path.{_≡_, refl, ap, sym, subst, _∙_}
+use mathlib.Core.Logic.{_⊎_, inl, inr}
 use mathlib.Core.Bool.{Bool, true, false}
 use mathlib.Core.List.{List, [], _∷_, _++_, append-assoc, append-nil}
-use Prim.Native.Nat.{ℕ, suc, _+_, _*_, _<_, _≤_}
+use Prim.Native.Nat.{ℕ, suc, _+_, _*_, _-_, _<_, _≤_}
 use native.Mathlib.Omega.{arith}
 use native.Mathlib.Numerals.{add-one}
 use borrow.Author.Tests.{ltb-true, ltb-false, ne-eqb}
 use lib.Dec.{ltb}
 use lib.ListN.{length, take, length-append, length-take}
 use lib.Seq.{sets-eq, take-at, take-all, take-suc-set, take-append-le, length-take-le}
+use Rattle.trace.specs.declared.Refusal.{Refusal}
 use Rattle.table.specs.Node.{_▸_}
+use Rattle.psl.specs.Formula.{Formula}
+use Rattle.translate.specs.Emitted.{emitted}
+use Rattle.lines.specs.Spelling.{formulaLine}
+use Rattle.lines.specs.Reading.{Takes, Refuses}
+use Rattle.lines.specs.FormulaAnswer.{formulaLimits}
 use Rattle.lines.specs.Inner.Writer.{Wrote}
-use Rattle.run.specs.Run.{FirstAnswer, LaterAnswer}
-use Rattle.run.specs.Printed.{tableText, firstText, laterText}
-use Rattle.run.specs.Whole.{endedAfter, openAfter, endedLines, openLine, inputLines, Begins, LaterLines, Prints, Runs}
-use Rattle.run.specs.Progress.{keptBytes, Remembers, Told, At}
-use Rattle.run.specs.Inner.{FirstDone, LaterDone, Keeps, Same}
+use Rattle.lines.proofs.ReadingLaw.{takes-cut, refuses-cut}
+use Rattle.lines.proofs.WriterLaw.{wrote-room, wrote-fits}
+use Rattle.run.specs.Input.{endedAfter, openAfter, endedLines, openLine, inputLines}
+use Rattle.run.specs.Printed.{refusedText, tableText}
+use Rattle.run.specs.Whole.{LaterAnswer, laterText, PrintsTraces, Prints, Runs}
+use Rattle.run.specs.Inner.{TablesOf, FirstAnswer, keptBytes, Told, Going, At, firstText, Remembers, FirstDone, LaterDone, Keeps}
 use Rattle.run.specs.declared.First.{First}
 use Rattle.run.specs.declared.First.the-variants as First
 use Rattle.run.specs.declared.Later.{Later}
+use Rattle.run.specs.declared.Later.the-variants as Later
 use Rattle.run.specs.declared.stream.State.{State}
 use Rattle.run.proofs.CutLaw.{ended-end, open-end, ended-byte, open-byte, first-line-stays, last-ends, only-line, no-last}
-use Rattle.run.proofs.AnswerLaw.{first-kept, later-kept}
 
 -- ── The gathered bytes ──
 
 -- What was written stands behind what was gathered.
-pub gathers : {w l m : List ℕ} {at next : ℕ} → Wrote w l m at next → next ≤ length l → take next m ≡ take at l ++ w
+pub gathers : {w l m : List ℕ} {at next : ℕ} → Wrote w l m at next → next < length l → take next m ≡ take at l ++ w
 gathers {w} {l} {m} {at} {next} a h =
-    let fits : at + length w ≤ length l = omega (arith, a .ends) in
-    let counted : length (take at l ++ w) ≡ next = length-append (take at l) w ∙ omega (arith, a .ends, length-take-le at l (omega arith)) in
+    let fits = wrote-room a h in
+    let ends = wrote-fits a fits in
+    let counted : length (take at l ++ w) ≡ next = length-append (take at l) w ∙ omega (arith, ends, length-take-le at l (omega arith)) in
     ap (take next) (a .is ∙ sets-eq w l at fits) ∙ take-at (take at l ++ w) _ next counted
 
-printed : {w l m : List ℕ} {at next : ℕ} (done : List ℕ) → Wrote w l m at next → next ≤ length l → done ++ take next m ≡ (done ++ take at l) ++ w
+printed : {w l m : List ℕ} {at next : ℕ} (done : List ℕ) → Wrote w l m at next → next < length l → done ++ take next m ≡ (done ++ take at l) ++ w
 printed {w} {l} {at = at} done a h = ap (λ (x : List ℕ). done ++ x) (gathers a h) ∙ sym (append-assoc done (take at l) w)
-
--- ── The state ──
-
-remembers-same : (r : First) (s s′ : State) → s′ .more ≡ s .more → s′ .nodes ≡ s .nodes → s′ .size ≡ s .size → Remembers r s → Remembers r s′
-remembers-same (First.Refused x) s s′ m n z h = m ∙ h
-remembers-same (First.Tables i j) s s′ m n z (h, p, q) = (m ∙ h, n ∙ p, z ∙ q)
-
-told-same : (ls : List (List ℕ)) (out sheet table : List ℕ) (s s′ : State) → s′ .more ≡ s .more → s′ .nodes ≡ s .nodes → s′ .size ≡ s .size
-    → Told ls out s sheet table → Told ls out s′ sheet table
-told-same [] out sheet table s s′ m n z (e, h) = (e, m ∙ h)
-told-same (l ∷ ls) out sheet table s s′ m n z (r, b, c, h) = (r, b, c, remembers-same r s s′ m n z h)
 
 -- ── Nothing is taken yet ──
 
-pub at-start : {line sheet table out : List ℕ} (s : State) → s .number ≡ 1 → s .filled ≡ 0 → s .gathered ≡ 0 → s .more ≡ true → At [] [] s line sheet table out
+pub going-start : {line psl ltl : List ℕ} (s : State) → s .number ≡ 1 → s .filled ≡ 0 → Going [] [] s line psl ltl
 unfolding endedAfter openAfter
-at-start {line} {out = out} s n f g m =
-    record { counted = n; kept = ap (λ (k : ℕ). take k line) f; told = (ap (λ (k : ℕ). take k out) g, m) }
+going-start {line} s n f = record { counted = n; kept = ap (λ (k : ℕ). take k line) f; told = refl }
 
--- The count of taken bytes does not matter.
-pub at-same : {read done line sheet table out : List ℕ} (s s′ : State) → At read done s line sheet table out → s′ .number ≡ s .number → s′ .filled ≡ s .filled
-    → s′ .more ≡ s .more → s′ .nodes ≡ s .nodes → s′ .size ≡ s .size → s′ .gathered ≡ s .gathered → At read done s′ line sheet table out
-at-same {read} {done} {line} {sheet} {table} {out} s s′ a num filled more nodes size gathered =
-    record {
-      counted = num ∙ a .counted;
-      kept = ap (λ (k : ℕ). take k line) filled ∙ a .kept;
-      told = subst (λ (k : ℕ). Told (endedLines read) (done ++ take k out) s′ sheet table) (sym gathered)
-          (told-same (endedLines read) (done ++ take (s .gathered) out) sheet table s s′ more nodes size (a .told));
-    }
+-- ── What the relation speaks of ──
 
--- ── A byte of a line ──
+told-same : (ls : List (List ℕ)) (out psl ltl : List ℕ) (s r : State) → r .nodes ≡ s .nodes → r .size ≡ s .size → Told ls out s psl ltl → Told ls out r psl ltl
+told-same [] out psl ltl s r n z t = t
+told-same (l ∷ ls) out psl ltl s r n z (f, rest, a, b, c, d) = (f, rest, a, rw (n, z) b, c, d)
 
--- The kept bytes of a line that has a byte more.
-kept-byte : (line line′ o : List ℕ) (at b next : ℕ) → length line ≡ keptBytes → at ≤ keptBytes → take at line ≡ take keptBytes o → Keeps at b line line′ next
-    → take next line′ ≡ take keptBytes (o ▸ b)
-kept-byte line line′ o at b next room h e (more, full) = go (ltb at keptBytes) refl
-  where
-    go : (t : Bool) → ltb at keptBytes ≡ t → take next line′ ≡ take keptBytes (o ▸ b)
-    go true t =
-        let low = ltb-true at keptBytes t in
-        let (p, q) = more (omega arith) in
-        let few : length o < keptBytes = omega (arith, length-take keptBytes o, ap length e, length-take-le at line (omega arith)) in
-        let all : take keptBytes o ≡ o = take-all keptBytes o (omega arith) in
-        ap (λ (k : ℕ). take k line′) (q ∙ add-one at)
-        ∙ ap (take (suc at)) p
-        ∙ take-suc-set line at b (omega arith)
-        ∙ ap (λ (x : List ℕ). x ▸ b) (e ∙ all)
-        ∙ sym (take-all keptBytes (o ▸ b) (omega (arith, length-append o (b ∷ []))))
-    go false t =
-        let high = ltb-false at keptBytes t in
-        let (p, q) = full (omega arith) in
-        let many : keptBytes ≤ length o = omega (arith, length-take keptBytes o, ap length e, length-take-le at line (omega arith)) in
-        ap (λ (k : ℕ). take k line′) q ∙ ap (take at) p ∙ e ∙ sym (take-append-le keptBytes o (b ∷ []) many)
+module _ {read out line psl ltl : List ℕ} (s r : State) (g : Going read out s line psl ltl) (num : r .number ≡ s .number) (nodes : r .nodes ≡ s .nodes)
+    (size : r .size ≡ s .size) where
+  pub going-same : r .filled ≡ s .filled → Going read out r line psl ltl
+  going-same filled =
+      record {
+        counted = num ∙ g .counted;
+        kept = ap (λ (k : ℕ). take k line) filled ∙ g .kept;
+        told = told-same (endedLines read) out psl ltl s r nodes size (g .told);
+      }
 
-module _ {read done line sheet table out : List ℕ} (s s′ : State) (a : At read done s line sheet table out) where
-  pub at-byte : (b : ℕ) (line′ : List ℕ) → (b ≡ 10 → ⊥) → length line ≡ keptBytes → s .filled ≤ keptBytes → Keeps (s .filled) b line line′ (s′ .filled)
-      → s′ .number ≡ s .number → s′ .more ≡ s .more → s′ .nodes ≡ s .nodes → s′ .size ≡ s .size → s′ .gathered ≡ s .gathered
-      → At (read ▸ b) done s′ line′ sheet table out
-  at-byte b line′ ne room h keeps num more nodes size gathered =
+  -- ── A byte of a line ──
+
+  pub going-byte : (b : ℕ) (line′ : List ℕ) → (b ≡ 10 → ⊥) → length line ≡ keptBytes → s .filled ≤ keptBytes → Keeps (s .filled) b line line′ (r .filled)
+      → Going (read ▸ b) out r line′ psl ltl
+  going-byte b line′ ne room h keeps =
       let other = ne-eqb b 10 ne in
       let ended = ended-byte b other read [] in
       record {
-        counted = num ∙ a .counted ∙ ap (λ (ls : List (List ℕ)). 1 + length ls) (sym ended);
-        kept = kept-byte line line′ (openLine read) (s .filled) b (s′ .filled) room h (a .kept) keeps ∙ ap (take keptBytes) (sym (open-byte b other read []));
-        told = subst (λ (ls : List (List ℕ)). Told ls (done ++ take (s′ .gathered) out) s′ sheet table) (sym ended)
-            (subst (λ (k : ℕ). Told (endedLines read) (done ++ take k out) s′ sheet table) (sym gathered)
-            (told-same (endedLines read) (done ++ take (s .gathered) out) sheet table s s′ more nodes size (a .told)));
+        counted = num ∙ g .counted ∙ ap (λ (ls : List (List ℕ)). 1 + length ls) (sym ended);
+        kept = kept-byte (openLine read) (s .filled) (r .filled) room h (g .kept) keeps ∙ ap (take keptBytes) (sym (open-byte b other read []));
+        told = subst (λ (ls : List (List ℕ)). Told ls out r psl ltl) (sym ended) (told-same (endedLines read) out psl ltl s r nodes size (g .told));
       }
+    where
+      -- The kept bytes of a line that has a byte more.
+      kept-byte : (o : List ℕ) (at next : ℕ) → length line ≡ keptBytes → at ≤ keptBytes → take at line ≡ take keptBytes o → Keeps at b line line′ next
+          → take next line′ ≡ take keptBytes (o ▸ b)
+      kept-byte o at next room h e (more, full) = go (ltb at keptBytes) refl
+        where
+          go : (t : Bool) → ltb at keptBytes ≡ t → take next line′ ≡ take keptBytes (o ▸ b)
+          go true t =
+              let low = ltb-true at keptBytes t in
+              let (p, q) = more (omega arith) in
+              let few : length o < keptBytes = omega (arith, length-take keptBytes o, ap length e, length-take-le at line (omega arith)) in
+              let all : take keptBytes o ≡ o = take-all keptBytes o (omega arith) in
+              ap (λ (k : ℕ). take k line′) (q ∙ add-one at)
+              ∙ ap (take (suc at)) p
+              ∙ take-suc-set line at b (omega arith)
+              ∙ ap (λ (x : List ℕ). x ▸ b) (e ∙ all)
+              ∙ sym (take-all keptBytes (o ▸ b) (omega (arith, length-append o (b ∷ []))))
+          go false t =
+              let high = ltb-false at keptBytes t in
+              let (p, q) = full (omega arith) in
+              let many : keptBytes ≤ length o = omega (arith, length-take keptBytes o, ap length e, length-take-le at line (omega arith)) in
+              ap (λ (k : ℕ). take k line′) q ∙ ap (take at) p ∙ e ∙ sym (take-append-le keptBytes o (b ∷ []) many)
 
--- ── A line's end ──
+-- ── Line 1 ends ──
 
 no-lines : (ls : List (List ℕ)) → length ls ≤ 0 → ls ≡ []
 no-lines [] h = refl
 no-lines (l ∷ ls) h = absurd (omega arith)
 
-first-told : {o out sheet table : List ℕ} {s : State} (r : First) → Begins o r sheet table → Remembers r s → out ≡ firstText r table → Told (o ∷ []) out s sheet table
-first-told (First.Refused x) b h e = (First.Refused x, b, e, h)
-first-told {table = table} (First.Tables n z) b h e = (First.Tables n z, b, ([], e ∙ sym (append-nil (tableText (take (3 * z) table))), refl), h)
+-- What is printed is the text of the answer to line 1, the only line that ended.
+module _ (read o out psl ltl : List ℕ) (r : State) (ended : endedLines read ≡ o ∷ []) where
+  first-goes : (a : First) → FirstAnswer o a psl ltl → Remembers a r → out ≡ firstText a ltl → r .more ≡ true → Told (endedLines read) out r psl ltl
+  first-goes (First.Refused x) a (h, _, _) e m = let z : _≡_ {A = ℕ} 0 1 = cc in absurd (omega arith)
+  first-goes (First.Tables n z) (f, t, b, _, _) (_, p, q) e m =
+      subst (λ (ls : List (List ℕ)). Told ls out r psl ltl) (sym ended)
+      (f, [], t, rw (p, q) b, e ∙ ap tableText (b .translated) ∙ sym (append-nil (tableText (emitted f))), refl)
 
--- A later line more.
-later-more : (psl ltl out : List ℕ) (n k : ℕ) (ls : List (List ℕ)) (line : List ℕ) (r : Later) → k ≡ n + length ls → LaterAnswer line psl ltl r
-    → LaterLines psl ltl n ls out → LaterLines psl ltl n (ls ▸ line) (out ++ laterText k r)
-later-more psl ltl out n k [] line r e a h =
-    (r, [], a, ap (λ (x : List ℕ). x ++ laterText k r) h ∙ ap (λ (i : ℕ). laterText i r) (omega arith) ∙ sym (append-nil (laterText n r)), refl)
-later-more psl ltl out n k (l ∷ ls) line r e a (q, rest, b, f, h) = (
-  q,
-  rest ++ laterText k r,
-  b,
-  ap (λ (x : List ℕ). x ++ laterText k r) f ∙ append-assoc (laterText n q) rest (laterText k r),
-  later-more psl ltl rest (suc n) k ls line r (omega arith) a h,
-)
+  first-over : (a : First) → FirstAnswer o a psl ltl → Remembers a r → out ≡ firstText a ltl → r .more ≡ false → (rest : List ℕ) → Runs (read ++ rest) out
+  first-over (First.Tables n z) a (h, _, _) e m rest = let z : _≡_ {A = ℕ} 0 1 = cc in absurd (omega arith)
+  first-over (First.Refused x) a h e m rest =
+      let (ls, d) = first-line-stays read rest o [] ended in
+      subst (λ (ms : List (List ℕ)). Prints ms out) (sym d) (inr (x, a, e))
 
-later-told : (out sheet table : List ℕ) (ls : List (List ℕ)) (line : List ℕ) (s s′ : State) (r : Later) → 1 < s .number → s .number ≡ 1 + length ls
-    → s .more ≡ true → s′ .more ≡ true → s′ .nodes ≡ s .nodes → s′ .size ≡ s .size
-    → LaterAnswer line (take (3 * s .nodes) sheet) (take (3 * s .size) table) r → Told ls out s sheet table
-    → Told (ls ▸ line) (out ++ laterText (s .number) r) s′ sheet table
-later-told out sheet table [] line s s′ r h num m m′ n z a t = absurd (omega arith)
-later-told out sheet table (l ∷ ls) line s s′ r h num m m′ n z a (First.Refused x, b, c, d) = let z : _≡_ {A = ℕ} 0 1 = cc in absurd (omega arith)
-later-told out sheet table (l ∷ ls) line s s′ r h num m m′ n z a (First.Tables i j, b, (rest, e, later), (_, p, q)) =
-    let answered = subst (λ (k : ℕ). LaterAnswer line (take (3 * k) sheet) (take (3 * j) table) r) p
-    (subst (λ (k : ℕ). LaterAnswer line (take (3 * s .nodes) sheet) (take (3 * k) table) r) q a) in (
-      First.Tables i j,
-      b,
-      (
-        rest ++ laterText (s .number) r,
-        ap (λ (x : List ℕ). x ++ laterText (s .number) r) e ∙ append-assoc (tableText (take (3 * j) table)) rest (laterText (s .number) r),
-        later-more (take (3 * i) sheet) (take (3 * j) table) rest 2 (s .number) ls line r (omega arith) answered later,
-      ),
-      (m′, n ∙ p, z ∙ q),
-    )
+first-kept : (o psl ltl : List ℕ) (a : First) → FirstAnswer (take keptBytes o) a psl ltl → FirstAnswer o a psl ltl
+first-kept o psl ltl (First.Tables n s) (f, t, b, i, j) = (f, takes-cut o keptBytes (omega arith) t, b, i, j)
+first-kept o psl ltl (First.Refused x) a = refuses-cut o keptBytes (omega arith) a
 
-module _ {read done line sheet table out : List ℕ} (s s′ : State) (a : At read done s line sheet table out) where
-  pub at-first : {sheet′ table′ out′ : List ℕ} → length sheet ≡ 3072 → length table ≡ 12288 → s .number ≤ 1 → FirstDone (take (s .filled) line) sheet table out s s′ sheet′ table′ out′
-      → s′ .gathered ≤ length out → At (read ▸ 10) done s′ line sheet′ table′ out′
-  at-first {sheet′} {table′} {out′} room room′ h d fits =
-      let none = no-lines (endedLines read) (omega (arith, a .counted)) in
-      let ended = ended-end read [] ∙ ap (λ (ls : List (List ℕ)). ls ▸ openLine read) none in
-      let start = subst (λ (ls : List (List ℕ)). Told ls (done ++ take (s .gathered) out) s sheet table) none (a .told) in
-      let whole = first-kept (openLine read) (subst (λ (x : List ℕ). FirstAnswer x sheet table (d .answer) sheet′ table′) (a .kept) (d .answers)) in
+later-kept : (f : Formula) (o : List ℕ) (a : Later) → LaterAnswer f (take keptBytes o) a → LaterAnswer f o a
+later-kept f o (Later.Verdicts v w) (t, a, j) = (t, takes-cut o keptBytes (omega arith) a, j)
+later-kept f o (Later.Refused x) a = refuses-cut o keptBytes (omega arith) a
+
+module _ (read done line psl ltl out : List ℕ) (s r : State) (g : Going read (done ++ take (s .gathered) out) s line psl ltl) where
+  pub at-first : {psl′ ltl′ out′ : List ℕ} → s .number ≤ 1 → s .gathered ≡ 0 → FirstDone (take (s .filled) line) out r psl′ ltl′ out′ → r .gathered < length out
+      → At (read ▸ 10) (done ++ take (r .gathered) out′) r line psl′ ltl′
+  at-first {psl′} {ltl′} {out′} h none d fits =
+      let start = no-lines (endedLines read) (omega (arith, g .counted)) in
+      let ended = ended-end read [] ∙ ap (λ (ls : List (List ℕ)). ls ▸ openLine read) start in
+      let nothing = subst (λ (ls : List (List ℕ)). Told ls (done ++ take (s .gathered) out) s psl ltl) start (g .told) in
+      let empty : done ++ take 0 out ≡ [] = ap (λ (k : ℕ). done ++ take k out) (sym none) ∙ nothing in
+      let text = printed done (d .writes) fits ∙ ap (λ (x : List ℕ). x ++ firstText (d .answer) ltl′) empty in
+      let whole = first-kept (openLine read) psl′ ltl′ (d .answer) (subst (λ (x : List ℕ). FirstAnswer x (d .answer) psl′ ltl′) (g .kept) (d .answers)) in
       record {
-        counted = d .number ∙ ap (λ (ls : List (List ℕ)). 1 + length ls) (sym ended);
-        kept = ap (λ (k : ℕ). take k line) (d .filled) ∙ ap (take keptBytes) (sym (open-end read []));
-        told = subst (λ (ls : List (List ℕ)). Told ls (done ++ take (s′ .gathered) out′) s′ sheet′ table′) (sym ended)
-            (first-told (d .answer) (record { sheet₀ = sheet; table₀ = table; sheetRoom = room; tableRoom = room′; answers = whole }) (d .remembers)
-            (printed done (d .writes) fits ∙ ap (λ (x : List ℕ). x ++ firstText (d .answer) table′) (start .0)));
+        going = λ m. record {
+          counted = d .number ∙ ap (λ (ls : List (List ℕ)). 1 + length ls) (sym ended);
+          kept = ap (λ (k : ℕ). take k line) (d .filled) ∙ ap (take keptBytes) (sym (open-end read []));
+          told = first-goes (read ▸ 10) (openLine read) (done ++ take (r .gathered) out′) psl′ ltl′ r ended (d .answer) whole (d .remembers) text m;
+        };
+        over = first-over (read ▸ 10) (openLine read) (done ++ take (r .gathered) out′) psl′ ltl′ r ended (d .answer) whole (d .remembers) text;
       }
 
-  pub at-later : {out′ : List ℕ} → 1 < s .number → s .more ≡ true
-      → LaterDone (take (s .filled) line) (take (3 * s .nodes) sheet) (take (3 * s .size) table) out (s .number) (s .gathered) out′ (s′ .gathered)
-      → s′ .gathered ≤ length out → s′ .number ≡ s .number + 1 → s′ .filled ≡ 0 → s′ .more ≡ true → s′ .nodes ≡ s .nodes → s′ .size ≡ s .size
-      → At (read ▸ 10) done s′ line sheet table out′
-  at-later {out′} h m d fits num filled m′ n z =
+  -- ── A later line ends ──
+
+  pub going-later : {out′ : List ℕ} → 1 < s .number
+      → LaterDone (take (s .filled) line) (take (3 * s .nodes) psl) (take (3 * s .size) ltl) out (s .number) (s .gathered) out′ (r .gathered)
+      → r .gathered < length out → r .number ≡ s .number + 1 → r .filled ≡ 0 → r .nodes ≡ s .nodes → r .size ≡ s .size
+      → Going (read ▸ 10) (done ++ take (r .gathered) out′) r line psl ltl
+  going-later {out′} h d fits num filled n z =
       let ended = ended-end read [] in
-      let whole = later-kept (openLine read) (subst (λ (x : List ℕ). LaterAnswer x (take (3 * s .nodes) sheet) (take (3 * s .size) table) (d .answer)) (a .kept) (d .answers)) in
       record {
-        counted = num ∙ omega (arith, a .counted, length-append (endedLines read) (openLine read ∷ [])) ∙ ap (λ (ls : List (List ℕ)). 1 + length ls) (sym ended);
+        counted = num ∙ omega (arith, g .counted, length-append (endedLines read) (openLine read ∷ [])) ∙ ap (λ (ls : List (List ℕ)). 1 + length ls) (sym ended);
         kept = ap (λ (k : ℕ). take k line) filled ∙ ap (take keptBytes) (sym (open-end read []));
-        told = subst (λ (ls : List (List ℕ)). Told ls (done ++ take (s′ .gathered) out′) s′ sheet table) (sym ended)
-            (subst (λ (x : List ℕ). Told (endedLines read ▸ openLine read) x s′ sheet table) (sym (printed done (d .writes) fits))
-            (later-told (done ++ take (s .gathered) out) sheet table (endedLines read) (openLine read) s s′ (d .answer) h (a .counted) m m′ n z whole (a .told)));
+        told = subst (λ (ls : List (List ℕ)). Told ls (done ++ take (r .gathered) out′) r psl ltl) (sym ended)
+            (subst (λ (x : List ℕ). Told (endedLines read ▸ openLine read) x r psl ltl) (sym (printed done (d .writes) fits))
+            (go (endedLines read) refl (g .told)));
       }
+    where
+      -- A line more.
+      more : (f : Formula) (i k : ℕ) (ls : List (List ℕ)) (rest : List ℕ) → k ≡ i + length ls → LaterAnswer f (openLine read) (d .answer)
+          → PrintsTraces f i ls rest → PrintsTraces f i (ls ▸ openLine read) (rest ++ laterText k (d .answer))
+      more f i k [] rest e a p =
+          (d .answer, [], a, ap (λ (x : List ℕ). x ++ laterText k (d .answer)) p ∙ ap (λ (j : ℕ). laterText j (d .answer)) (omega arith) ∙ sym (append-nil (laterText i (d .answer))), refl)
+      more f i k (l ∷ ls) rest e a (q, tail, b, c, p) = (
+        q,
+        tail ++ laterText k (d .answer),
+        b,
+        ap (λ (x : List ℕ). x ++ laterText k (d .answer)) c ∙ append-assoc (laterText i q) tail (laterText k (d .answer)),
+        more f (suc i) k ls tail (omega arith) a p,
+      )
+
+      go : (ls : List (List ℕ)) → endedLines read ≡ ls → Told ls (done ++ take (s .gathered) out) s psl ltl
+          → Told (ls ▸ openLine read) ((done ++ take (s .gathered) out) ++ laterText (s .number - 1) (d .answer)) r psl ltl
+      go [] e t = absurd (omega (arith, g .counted, ap length e))
+      go (l ∷ ls) e (f, rest, a, b, c, p) =
+          let answered = later-kept f (openLine read) (d .answer) (subst (λ (x : List ℕ). LaterAnswer f x (d .answer)) (g .kept) (d .answers f b)) in (
+            f,
+            rest ++ laterText (s .number - 1) (d .answer),
+            a,
+            rw (n, z) b,
+            ap (λ (x : List ℕ). x ++ laterText (s .number - 1) (d .answer)) c ∙ append-assoc (tableText (emitted f)) rest (laterText (s .number - 1) (d .answer)),
+            more f 1 (s .number - 1) ls rest (omega (arith, g .counted, ap length e)) answered p,
+          )
 
 -- ── The input's end ──
 
-prints : (out sheet table : List ℕ) (s : State) (ls : List (List ℕ)) → 0 < length ls → Told ls out s sheet table → Prints ls out
-prints out sheet table s [] h t = absurd (omega arith)
-prints out sheet table s (l ∷ ls) h (r, b, c, _) = (r, sheet, table, b, c)
+prints : (out psl ltl : List ℕ) (s : State) (ls : List (List ℕ)) → 0 < length ls → Told ls out s psl ltl → Prints ls out
+prints out psl ltl s [] h t = absurd (omega arith)
+prints out psl ltl s (l ∷ ls) h (f, rest, a, _, c, p) = inl (f, rest, a, c, p)
 
-module _ {read done line sheet table out : List ℕ} (s : State) (a : At read done s line sheet table out) where
+module _ {read out line psl ltl : List ℕ} (s : State) (g : Going read out s line psl ltl) where
   -- No line is open: the lines that have ended are all.
-  pub at-end-empty : s .filled ≡ 0 → 1 < s .number → Runs read (done ++ take (s .gathered) out)
-  at-end-empty f h = go (endedLines read) refl (a .told)
+  pub end-empty : s .filled ≡ 0 → 1 < s .number → Runs read out
+  end-empty f h = go (endedLines read) refl (g .told)
     where
       empty : openLine read ≡ []
-      empty = nil (openLine read) (sym (a .kept) ∙ ap (λ (k : ℕ). take k line) f)
+      empty = nil (openLine read) (sym (g .kept) ∙ ap (λ (k : ℕ). take k line) f)
         where
           nil : (o : List ℕ) → take keptBytes o ≡ [] → o ≡ []
           nil [] e = refl
           nil (b ∷ o) e = let z : suc (length (take 16384 o)) ≡ 0 = ap length e in absurd (omega arith)
 
-      go : (ls : List (List ℕ)) → endedLines read ≡ ls → Told (endedLines read) (done ++ take (s .gathered) out) s sheet table
-          → Runs read (done ++ take (s .gathered) out)
-      go [] e t = absurd (omega (arith, a .counted, ap length e))
-      go (l ∷ ls) e t =
-          subst (λ (ms : List (List ℕ)). Prints ms (done ++ take (s .gathered) out)) (sym (no-last read l ls e empty))
-          (prints (done ++ take (s .gathered) out) sheet table s (l ∷ ls) (omega arith) (subst (λ (ms : List (List ℕ)). Told ms (done ++ take (s .gathered) out) s sheet table) e t))
+      go : (ls : List (List ℕ)) → endedLines read ≡ ls → Told ls out s psl ltl → Runs read out
+      go [] e t = absurd (omega (arith, g .counted, ap length e))
+      go (l ∷ ls) e t = subst (λ (ms : List (List ℕ)). Prints ms out) (sym (no-last read l ls e empty)) (prints out psl ltl s (l ∷ ls) (omega arith) t)
 
--- The open line is answered as if byte 10 ended it.
-module _ {read done line sheet table out : List ℕ} (s : State) (a : At read done s line sheet table out) where
-  pub at-end-open : {sheet′ table′ out′ : List ℕ} (s′ : State) → s .filled ≤ length line → (s .filled ≡ 0 → s .number ≤ 1)
-      → At (read ▸ 10) done s′ line sheet′ table′ out′ → Runs read (done ++ take (s′ .gathered) out′)
-  at-end-open {sheet′} {table′} {out′} s′ room h b =
-      subst (λ (ls : List (List ℕ)). Prints ls (done ++ take (s′ .gathered) out′)) (sym same) (prints (done ++ take (s′ .gathered) out′) sheet′ table′ s′ (endedLines (read ▸ 10)) some (b .told))
+  -- The open line is answered as if byte 10 ended it.
+  pub end-open : {psl′ ltl′ out′ : List ℕ} (r : State) → s .filled ≤ length line → (s .filled ≡ 0 → s .number ≤ 1) → At (read ▸ 10) out′ r line psl′ ltl′ → Runs read out′
+  end-open {psl′} {ltl′} {out′} r room h a = go (r .more) refl
     where
+      same : inputLines read ≡ endedLines (read ▸ 10)
+      same = by (endedLines read) refl
+        where
+          by : (ls : List (List ℕ)) → endedLines read ≡ ls → inputLines read ≡ endedLines (read ▸ 10)
+          by [] e = only-line read e
+          by (l ∷ ls) e =
+              last-ends read (λ n. let z : _≡_ {A = ℕ} 0 1 = cc in omega arith)
+              (λ o. let short : s .filled ≡ 0 = omega (arith, length-take-le (s .filled) line room, ap length (g .kept), ap (λ (x : List ℕ). length (take keptBytes x)) o) in
+              omega (arith, h short, g .counted, ap length e))
+
       some : 0 < length (endedLines (read ▸ 10))
       some = omega (arith, ap length (ended-end read []), length-append (endedLines read) (openLine read ∷ []))
 
-      same : inputLines read ≡ endedLines (read ▸ 10)
-      same = go (endedLines read) refl
+      -- With byte 10 behind it the input has the same lines.
+      closed : inputLines (read ▸ 10) ≡ endedLines (read ▸ 10)
+      closed = by (endedLines (read ▸ 10)) refl
         where
-          go : (ls : List (List ℕ)) → endedLines read ≡ ls → inputLines read ≡ endedLines (read ▸ 10)
-          go [] e = only-line read e
-          go (l ∷ ls) e =
-              last-ends read (λ n. let z : _≡_ {A = ℕ} 0 1 = cc in omega arith)
-              (λ o. let short : s .filled ≡ 0 = omega (arith, length-take-le (s .filled) line room, ap length (a .kept), ap (λ (x : List ℕ). length (take keptBytes x)) o) in
-              omega (arith, h short, a .counted, ap length e))
+          by : (ls : List (List ℕ)) → endedLines (read ▸ 10) ≡ ls → inputLines (read ▸ 10) ≡ endedLines (read ▸ 10)
+          by [] e = absurd (omega (arith, some, ap length e))
+          by (l ∷ ls) e = no-last (read ▸ 10) l ls e (open-end read []) ∙ sym e
 
--- ── The run is over ──
-
-refused-prints : {sheet table : List ℕ} (l : List ℕ) (ms ls : List (List ℕ)) (out : List ℕ) (s : State) → s .more ≡ false → Told (l ∷ ls) out s sheet table
-    → Prints (l ∷ ms) out
-refused-prints {sheet} {table} l ms ls out s m (First.Refused x, b, c, h) = (First.Refused x, sheet, table, b, c)
-refused-prints l ms ls out s m (First.Tables i j, b, c, (h, _, _)) = let z : _≡_ {A = ℕ} 0 1 = cc in absurd (omega arith)
-
--- After a refused line 1 what has been printed is the output, whatever follows.
-pub at-over : {read done line sheet table out : List ℕ} (s : State) → At read done s line sheet table out → s .more ≡ false → (rest : List ℕ)
-    → Runs (read ++ rest) (done ++ take (s .gathered) out)
-at-over {read} {done} {line} {sheet} {table} {out} s a m rest = go (endedLines read) refl (a .told)
-  where
-    go : (ls : List (List ℕ)) → endedLines read ≡ ls → Told ls (done ++ take (s .gathered) out) s sheet table → Runs (read ++ rest) (done ++ take (s .gathered) out)
-    go [] e (_, t) = let z : _≡_ {A = ℕ} 0 1 = cc in absurd (omega arith)
-    go (l ∷ ls) e t =
-        let (ms, f) = first-line-stays read rest l ls e in
-        subst (λ (ns : List (List ℕ)). Prints ns (done ++ take (s .gathered) out)) (sym f) (refused-prints l ms ls (done ++ take (s .gathered) out) s m t)
-
--- ── The gathered answers are written ──
-
-pub at-written : {read done line sheet table out : List ℕ} (s s′ : State) → At read done s line sheet table out → Same s s′ → s′ .gathered ≡ 0 → s′ .more ≡ true
-    → At read (done ++ take (s .gathered) out) s′ line sheet table out
-at-written {read} {done} {line} {sheet} {table} {out} s s′ a e g m =
-    record {
-      counted = e .number ∙ a .counted;
-      kept = ap (λ (k : ℕ). take k line) (e .filled) ∙ a .kept;
-      told = subst (λ (x : List ℕ). Told (endedLines read) x s′ sheet table)
-          (sym (ap (λ (k : ℕ). (done ++ take (s .gathered) out) ++ take k out) g ∙ append-nil (done ++ take (s .gathered) out)))
-          (told-same (endedLines read) (done ++ take (s .gathered) out) sheet table s s′ (m ∙ sym (e .over m)) (e .nodes) (e .size) (a .told));
-    }
+      go : (m : Bool) → r .more ≡ m → Runs read out′
+      go true e = subst (λ (ls : List (List ℕ)). Prints ls out′) (sym same) (prints out′ psl′ ltl′ r (endedLines (read ▸ 10)) some (a .going e .told))
+      go false e =
+          subst (λ (ls : List (List ℕ)). Prints ls out′) (closed ∙ sym same)
+          (subst (λ (x : List ℕ). Runs x out′) (append-nil (read ▸ 10)) (a .over e []))

@@ -1,63 +1,185 @@
--- What the inner functions of the stream give: read this after `Progress`.
+-- What the inner functions of a run promise: read this after `Whole`.
 use mathlib.Core.Path.{_≡_}
-use mathlib.Core.Bool.{true}
-use mathlib.Core.List.{List, _++_}
-use Prim.Native.Nat.{ℕ, _+_, _≤_, _<_}
-use lib.ListN.{length, set}
-use Rattle.table.specs.Node.{_▸_}
-use Rattle.psl.specs.Check.{pslRules}
-use Rattle.ltl.specs.Check.{ltlRules}
+use mathlib.Core.Bool.{true, false}
+use mathlib.Core.Option.{none}
+use mathlib.Core.List.{List, [], _∷_, _++_}
+use Prim.Native.Nat.{ℕ, _+_, _*_, _-_, _≤_, _<_}
+use lib.ListN.{length, take, set}
+use Rattle.table.specs.Node.{numbersOf, _▸_}
+use Rattle.psl.specs.Formula.{Formula}
+use Rattle.psl.specs.Check.{pslRules, pslRefusal}
+use Rattle.ltl.specs.Check.{ltlRules, ltlRefusal}
+use Rattle.translate.specs.Emitted.{emitted}
+use Rattle.lines.specs.Spelling.{formulaLine}
+use Rattle.lines.specs.Closing.{table}
+use Rattle.lines.specs.Limits.{mostBytes}
+use Rattle.lines.specs.Reading.{Takes, Refuses}
+use Rattle.lines.specs.FormulaAnswer.{formulaLimits}
 use Rattle.lines.specs.Inner.Writer.{Wrote}
-use Rattle.run.specs.Run.{FirstAnswer, LaterAnswer}
-use Rattle.run.specs.Printed.{firstText, laterText}
-use Rattle.run.specs.Progress.{Remembers, At, Within, much, longest}
+use Rattle.run.specs.Input.{endedLines, openLine}
+use Rattle.run.specs.Printed.{refusedText, tableText}
+use Rattle.run.specs.Whole.{LaterAnswer, laterText, PrintsTraces, Runs}
 use Rattle.run.specs.declared.First.{First}
+use Rattle.run.specs.declared.First.the-variants as First
 use Rattle.run.specs.declared.Later.{Later}
 use Rattle.run.specs.declared.stream.State.{State}
 
--- Line 1: its answer, the answer's text behind what is gathered, and the state s′ after it.
-pub record FirstDone (line sheet table out : List ℕ) (s s′ : State) (sheet′ table′ out′ : List ℕ) : Type 0 where
+-- ── The two tables ──
+
+-- The PSL and the LTL table of a formula that is within the limits.
+pub record TablesOf (f : Formula) (psl ltl : List ℕ) : Type 0 where
+  pub limits : formulaLimits f ≡ none
+  pub read : psl ≡ numbersOf (table f)
+  pub translated : ltl ≡ emitted f
+
+-- Both tables pass their check.
+abbrev pub Accepted : List ℕ → List ℕ → Type 0
+Accepted psl ltl = (pslRefusal psl ≡ none) × (ltlRefusal ltl ≡ none)
+
+-- Line 1: the tables of its formula stand at the front of two lists, n and s nodes; or its refusal.
+abbrev pub FirstAnswer : List ℕ → First → List ℕ → List ℕ → Type 0
+FirstAnswer line (First.Tables n s) psl ltl =
+    (f : Formula) × Takes formulaLine formulaLimits line f × TablesOf f (take (3 * n) psl) (take (3 * s) ltl) × (n ≤ pslRules .most) × (s ≤ ltlRules .most)
+FirstAnswer line (First.Refused x) psl ltl = Refuses formulaLine formulaLimits line x
+
+-- ── Where a run stands between two bytes of its input ──
+
+-- The bytes of a line that are kept: one more than it may have, so that a longer one is seen to be.
+abbrev pub keptBytes : ℕ
+keptBytes = mostBytes + 1
+
+-- The lines that have ended printed `out`; the tables of the first stand at the front of two lists.
+abbrev pub Told : List (List ℕ) → List ℕ → State → List ℕ → List ℕ → Type 0
+Told [] out s psl ltl = out ≡ []
+Told (line ∷ ls) out s psl ltl =
+    (f : Formula) × (rest : List ℕ) × Takes formulaLine formulaLimits line f × TablesOf f (take (3 * s .nodes) psl) (take (3 * s .size) ltl)
+    × (out ≡ tableText (emitted f) ++ rest) × PrintsTraces f 1 ls rest
+
+-- The run goes on: the bytes `read` have been taken, and the lines that ended in them printed `out`.
+pub record Going (read out : List ℕ) (s : State) (line psl ltl : List ℕ) : Type 0 where
+  pub counted : s .number ≡ 1 + length (endedLines read)
+  pub kept : take (s .filled) line ≡ take keptBytes (openLine read)
+  pub told : Told (endedLines read) out s psl ltl
+
+-- The same, or the run is over: whatever follows the bytes `read`, `out` is the whole output.
+pub record At (read out : List ℕ) (s : State) (line psl ltl : List ℕ) : Type 0 where
+  pub going : s .more ≡ true → Going read out s line psl ltl
+  pub over : s .more ≡ false → (rest : List ℕ) → Runs (read ++ rest) out
+
+-- ── Bounds ──
+
+-- No answer prints more bytes, and none but that to line 1 more than `shortest`.
+abbrev pub longest : ℕ
+longest = 107000
+
+abbrev pub shortest : ℕ
+shortest = 60
+
+-- The most bytes of a block of input, and those that it can gather.
+abbrev pub mostBlock : ℕ
+mostBlock = 16384
+
+abbrev pub mostGathered : ℕ
+mostGathered = longest + shortest * mostBlock
+
+-- The largest number of a line.
+abbrev pub mostLines : ℕ
+mostLines = 18446744073709551615
+
+-- The lent lists have their room, and the state's counts are within it. In a run that goes on after line 1 the lists hold a formula's tables.
+pub record Within (s : State) (line psl ltl out : List ℕ) : Type 0 where
+  pub lineRoom : length line ≡ keptBytes
+  pub pslRoom : length psl ≡ 3 * pslRules .most
+  pub ltlRoom : length ltl ≡ 3 * ltlRules .most
+  pub outRoom : length out ≡ 1200000
+  pub filled : s .filled ≤ keptBytes
+  pub nodes : s .nodes ≤ pslRules .most
+  pub size : s .size ≤ ltlRules .most
+  pub numbered : 0 < s .number
+  pub working : s .more ≡ true → s .failed ≡ false
+  pub stored : 1 < s .number → s .more ≡ true → (f : Formula) × TablesOf f (take (3 * s .nodes) psl) (take (3 * s .size) ltl)
+
+-- At most `most` bytes are gathered, and none before line 1 is answered.
+pub record Gathered (most : ℕ) (s : State) : Type 0 where
+  pub few : s .gathered ≤ most
+  pub first : s .number ≤ 1 → s .gathered ≡ 0
+
+-- ── What the functions of the stream do ──
+
+-- Line 1: its answer, the answer's text from the start of a list on, and the state r after it.
+abbrev pub firstText : First → List ℕ → List ℕ
+firstText (First.Tables n s) ltl = tableText (take (3 * s) ltl)
+firstText (First.Refused x) ltl = refusedText 1 x
+
+abbrev pub Remembers : First → State → Type 0
+Remembers (First.Tables n s) r = (r .more ≡ true) × (r .nodes ≡ n) × (r .size ≡ s)
+Remembers (First.Refused x) r = (r .more ≡ false) × (r .nodes ≡ 0) × (r .size ≡ 0)
+
+pub record FirstDone (line out : List ℕ) (r : State) (psl′ ltl′ out′ : List ℕ) : Type 0 where
   pub answer : First
-  pub answers : FirstAnswer line sheet table answer sheet′ table′
-  pub writes : Wrote (firstText answer table′) out out′ (s .gathered) (s′ .gathered)
-  pub short : s′ .gathered ≤ s .gathered + longest
-  pub remembers : Remembers answer s′
-  pub number : s′ .number ≡ 2
-  pub filled : s′ .filled ≡ 0
-  pub taken : s′ .taken ≡ s .taken
-  pub nodes : s′ .nodes ≤ pslRules .most
-  pub size : s′ .size ≤ ltlRules .most
+  pub answers : FirstAnswer line answer psl′ ltl′
+  pub writes : Wrote (firstText answer ltl′) out out′ 0 (r .gathered)
+  pub short : r .gathered ≤ longest
+  pub remembers : Remembers answer r
+  pub number : r .number ≡ 2
+  pub filled : r .filled ≡ 0
+  pub works : r .failed ≡ false
 
 -- A later line of a number: its answer, and the answer's text from place `at` up to `next`.
 pub record LaterDone (line psl ltl out : List ℕ) (number at : ℕ) (out′ : List ℕ) (next : ℕ) : Type 0 where
   pub answer : Later
-  pub answers : LaterAnswer line psl ltl answer
-  pub writes : Wrote (laterText number answer) out out′ at next
-  pub short : next ≤ at + longest
+  pub answers : (f : Formula) → TablesOf f psl ltl → LaterAnswer f line answer
+  pub writes : Wrote (laterText (number - 1) answer) out out′ at next
+  pub short : next ≤ at + shortest
 
--- The open line ends: byte 10 is taken.
-pub record LineDone (line sheet table out : List ℕ) (s s′ : State) (sheet′ table′ out′ : List ℕ) : Type 0 where
-  pub within : Within (much + longest) s′ line sheet′ table′ out′
-  pub number : s′ .number ≡ s .number + 1
-  pub taken : s′ .taken ≡ s .taken
-  pub tells : (read done : List ℕ) → At read done s line sheet table out → At (read ▸ 10) done s′ line sheet′ table′ out′
+-- The open line ends: byte 10 is taken, and the answer's text is gathered.
+pub record LineDone (line psl ltl out : List ℕ) (s r : State) (psl′ ltl′ out′ : List ℕ) : Type 0 where
+  pub within : Within r line psl′ ltl′ out′
+  pub number : r .number ≡ s .number + 1
+  pub short : (k : ℕ) → Gathered (longest + k) s → r .gathered ≤ longest + (k + shortest)
+  pub tells : (read done : List ℕ) → Going read (done ++ take (s .gathered) out) s line psl ltl
+      → At (read ▸ 10) (done ++ take (r .gathered) out′) r line psl′ ltl′
 
 -- A byte of a line is kept at place `at`, where there is room.
 abbrev pub Keeps : ℕ → ℕ → List ℕ → List ℕ → ℕ → Type 0
 Keeps at b line line′ next =
     (at < length line → (line′ ≡ set line at b) × (next ≡ at + 1)) × (length line ≤ at → (line′ ≡ line) × (next ≡ at))
 
--- All but what is gathered is kept, and a run that is over stays so.
-pub record Same (s s′ : State) : Type 0 where
-  pub number : s′ .number ≡ s .number
-  pub filled : s′ .filled ≡ s .filled
-  pub nodes : s′ .nodes ≡ s .nodes
-  pub size : s′ .size ≡ s .size
-  pub taken : s′ .taken ≡ s .taken
-  pub over : s′ .more ≡ true → s .more ≡ true
+-- All bytes of a block are taken, or the run is over.
+pub record Fed (block line psl ltl : List ℕ) (s r : State) (line′ psl′ ltl′ out′ : List ℕ) : Type 0 where
+  pub within : Within r line′ psl′ ltl′ out′
+  pub room : r .gathered ≤ length out′
+  pub tells : (read done : List ℕ) → Going read done s line psl ltl → At (read ++ block) (done ++ take (r .gathered) out′) r line′ psl′ ltl′
 
--- A block is taken, unless the run is over; what it printed has been handed over to be written.
-pub record Passed (block line sheet table out : List ℕ) (s s′ : State) (line′ sheet′ table′ out′ : List ℕ) : Type 0 where
-  pub within : Within much s′ line′ sheet′ table′ out′
-  pub tells : s′ .more ≡ true → (read done : List ℕ) → At read done s line sheet table out
-      → (done′ : List ℕ) × At (read ++ block) done′ s′ line′ sheet′ table′ out′
+-- The input ends: the bytes gathered then are the rest of the output.
+pub record Finished (line psl ltl : List ℕ) (s r : State) (psl′ ltl′ out′ : List ℕ) : Type 0 where
+  pub within : Within r line psl′ ltl′ out′
+  pub room : r .gathered ≤ length out′
+  pub tells : (read done : List ℕ) → Going read done s line psl ltl → Runs read (done ++ take (r .gathered) out′)
+
+-- The input ended after a run's bytes `read`, or its first line was refused in the block: in both cases `out` is the whole output.
+abbrev pub Ends : List ℕ → List ℕ → List ℕ → Type 0
+Ends read [] out = Runs read out
+Ends read (b ∷ block) out = (rest : List ℕ) → Runs (read ++ ((b ∷ block) ++ rest)) out
+
+-- A block of input is taken, the empty one being the input's end: the bytes gathered then are what it prints.
+pub record Advanced (block line psl ltl : List ℕ) (s r : State) (line′ psl′ ltl′ out′ : List ℕ) : Type 0 where
+  pub within : Within r line′ psl′ ltl′ out′
+  pub room : r .gathered ≤ length out′
+  pub goes : r .more ≡ true → (read done : List ℕ) → Going read done s line psl ltl
+      → Going (read ++ block) (done ++ take (r .gathered) out′) r line′ psl′ ltl′
+  pub ends : r .more ≡ false → (read done : List ℕ) → Going read done s line psl ltl → Ends read block (done ++ take (r .gathered) out′)
+
+-- Nothing was read, and nothing is gathered; and the same where the run stops.
+abbrev pub idle : State → State
+idle s = record { number = s .number; filled = s .filled; nodes = s .nodes; size = s .size; gathered = 0; more = s .more; failed = s .failed }
+
+abbrev pub stopped : State → State
+stopped s = record { number = s .number; filled = s .filled; nodes = s .nodes; size = s .size; gathered = 0; more = false; failed = true }
+
+-- A turn took the block that was read, and handed its output over to be written; or reading or writing failed, and the run stops.
+pub record Turned (line psl ltl : List ℕ) (s r : State) (line′ psl′ ltl′ out′ : List ℕ) : Type 0 where
+  pub within : Within r line′ psl′ ltl′ out′
+  pub block : List ℕ
+  pub stops : r .failed ≡ true → r .more ≡ false
+  pub takes : r .failed ≡ false → Advanced block line psl ltl s r line′ psl′ ltl′ out′

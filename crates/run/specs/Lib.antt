@@ -1,6 +1,6 @@
--- What a run means: `Run` its answers, `Printed` their text, `Whole` a run from its input to its output, `Progress` a run so far.
+-- What a run means: `Input` its lines, `Printed` the texts, `Whole` a run from its input to its output, `Claims` what holds of every run.
+pub mod Input
 pub mod Printed
-pub mod Run
 pub mod Whole
-pub mod Progress
+pub mod Claims
 pub mod Inner

@@ -1,17 +1,12 @@
 -- What a run prints. Each line ends with byte 10.
 use mathlib.Core.List.{List, [], _∷_, _++_}
-use Prim.Native.Nat.{ℕ, zero, suc, _*_, _-_}
-use lib.ListN.{take}
+use Prim.Native.Nat.{ℕ, zero, suc}
 use Rattle.trace.specs.declared.Refusal.{Refusal}
 use Rattle.table.specs.Node.{count, nodeAt}
 use Rattle.verdict.specs.declared.Verdict.{Verdict}
 use Rattle.verdict.specs.declared.Verdict.the-variants as Verdict
 use Rattle.lines.specs.Text.{text}
 use Rattle.lines.specs.Spelling.{digits, brackets, nodeLine}
-use Rattle.run.specs.declared.First.{First}
-use Rattle.run.specs.declared.First.the-variants as First
-use Rattle.run.specs.declared.Later.{Later}
-use Rattle.run.specs.declared.Later.the-variants as Later
 
 -- `(refused L R)`: the line's number and the refusal.
 unfoldable pub refusedText : ℕ → Refusal → List ℕ
@@ -35,13 +30,3 @@ nodeLines t (suc k) = nodeLines t k ++ nodeLine k (nodeAt t k)
 -- `(ltl S)` and the lines of all nodes.
 unfoldable pub tableText : List ℕ → List ℕ
 tableText t = (brackets (text "ltl" ∷ digits (count t) ∷ []) ++ text "\n") ++ nodeLines t (count t)
-
--- The answer to line 1, with the LTL table at the front of a list.
-abbrev pub firstText : First → List ℕ → List ℕ
-firstText (First.Tables n s) m = tableText (take (3 * s) m)
-firstText (First.Refused x) m = refusedText 1 x
-
--- The answer to line `line`, above 1: it is trace line `line - 1`.
-abbrev pub laterText : ℕ → Later → List ℕ
-laterText line (Later.Verdicts v w) = traceText (line - 1) v w
-laterText line (Later.Refused x) = refusedText line x

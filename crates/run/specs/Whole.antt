@@ -1,97 +1,68 @@
--- A whole run: the lines of its input, and what it prints.
+-- What a run means: from the bytes of its input to the bytes of its output.
 use mathlib.Core.Path.{_≡_}
-use mathlib.Core.Bool.{cond}
+use mathlib.Core.Logic.{_⊎_}
 use mathlib.Core.List.{List, [], _∷_, _++_}
-use Prim.Native.Nat.{ℕ, suc, _*_}
-use lib.Dec.{eqb}
-use lib.ListN.{length, take}
-use Rattle.table.specs.Node.{_▸_}
+use Prim.Native.Nat.{ℕ, suc, _<_}
+use Rattle.trace.specs.Moments.{size}
+use Rattle.trace.specs.declared.Refusal.{Refusal}
 use Rattle.table.specs.Answer.{refused}
-use Rattle.psl.specs.Check.{pslRules}
-use Rattle.ltl.specs.Check.{ltlRules}
+use Rattle.psl.specs.Formula.{Formula}
+use Rattle.psl.specs.Meaning.{HoldsOn}
+use Rattle.ltl.specs.Meaning.{LtlHoldsOn}
+use Rattle.ltl.specs.Table.{treeOf}
+use Rattle.translate.specs.Emitted.{emitted}
 use Rattle.verdict.specs.declared.Verdict.{Verdict}
 use Rattle.verdict.specs.declared.Verdict.the-variants as Verdict
-use Rattle.lines.specs.Spelling.{traceLine}
-use Rattle.run.specs.Run.{FirstAnswer, LaterAnswer}
-use Rattle.run.specs.Printed.{refusedText, tableText, laterText}
-use Rattle.run.specs.declared.First.{First}
-use Rattle.run.specs.declared.First.the-variants as First
+use Rattle.lines.specs.Spelling.{formulaLine, Trace, lineOfTrace}
+use Rattle.lines.specs.Reading.{Takes, Refuses}
+use Rattle.lines.specs.FormulaAnswer.{formulaLimits}
+use Rattle.lines.specs.TraceAnswer.{traceLimits}
+use Rattle.run.specs.Input.{inputLines}
+use Rattle.run.specs.Printed.{refusedText, traceText, tableText}
 use Rattle.run.specs.declared.Later.{Later}
 use Rattle.run.specs.declared.Later.the-variants as Later
 
--- ── The lines of an input ──
+-- ── Trace lines ──
 
--- The lines that end in further bytes, each by byte 10, and the bytes of the line that does not; o are the bytes of the first line so far.
-unfoldable pub endedAfter : List ℕ → List ℕ → List (List ℕ)
-endedAfter o [] = []
-endedAfter o (b ∷ s) = cond (eqb b 10) (o ∷ endedAfter [] s) (endedAfter (o ▸ b) s)
+-- The verdict on a claim: yes where it is so, no where it is not.
+abbrev pub Tells : Type 0 → Verdict → Type 0
+Tells A Verdict.Yes = A
+Tells A Verdict.No = A → ⊥
+Tells A (Verdict.Refused x) = ⊥
 
-unfoldable pub openAfter : List ℕ → List ℕ → List ℕ
-openAfter o [] = o
-openAfter o (b ∷ s) = cond (eqb b 10) (openAfter [] s) (openAfter (o ▸ b) s)
+-- The verdicts v and w on a trace: v tells whether f holds by the PSL meaning, w whether its emitted table holds by the LTL meaning. On the empty
+-- trace, which has no LTL meaning, w is refused, and printed as `none`.
+pub record Judged (f : Formula) (t : Trace) (v w : Verdict) : Type 0 where
+  pub psl : Tells (HoldsOn f (t .lead) (t .loop)) v
+  pub ltl : 0 < size (t .lead) (t .loop) → Tells (LtlHoldsOn (treeOf (emitted f)) (t .lead) (t .loop)) w
+  pub empty : size (t .lead) (t .loop) ≡ 0 → w ≡ Verdict.Refused (refused 16)
 
-abbrev pub endedLines : List ℕ → List (List ℕ)
-endedLines s = endedAfter [] s
+-- A trace line is answered by both verdicts on the trace that it spells, or by its refusal.
+abbrev pub LaterAnswer : Formula → List ℕ → Later → Type 0
+LaterAnswer f line (Later.Verdicts v w) = (t : Trace) × Takes lineOfTrace traceLimits line t × Judged f t v w
+LaterAnswer f line (Later.Refused x) = Refuses lineOfTrace traceLimits line x
 
-abbrev pub openLine : List ℕ → List ℕ
-openLine s = openAfter [] s
+-- What the answer to trace line i prints; it is line i + 1 of the input.
+abbrev pub laterText : ℕ → Later → List ℕ
+laterText i (Later.Verdicts v w) = traceText i v w
+laterText i (Later.Refused x) = refusedText (suc i) x
 
--- A last line may lack byte 10; after a final byte 10 there is no further line; an empty input is one empty line.
-abbrev pub withLast : List (List ℕ) → List ℕ → List (List ℕ)
-withLast [] o = o ∷ []
-withLast (l ∷ ls) [] = l ∷ ls
-withLast (l ∷ ls) (b ∷ o) = (l ∷ ls) ▸ (b ∷ o)
+-- Trace lines, of which the first has number i, print `out`.
+abbrev pub PrintsTraces : Formula → ℕ → List (List ℕ) → List ℕ → Type 0
+PrintsTraces f i [] out = out ≡ []
+PrintsTraces f i (line ∷ ls) out =
+    (r : Later) × (rest : List ℕ) × LaterAnswer f line r × (out ≡ laterText i r ++ rest) × PrintsTraces f (suc i) ls rest
 
-abbrev pub inputLines : List ℕ → List (List ℕ)
-inputLines s = withLast (endedLines s) (openLine s)
+-- ── All lines ──
 
--- ── The output ──
-
--- Line 1 is answered by r, in lists with room for the largest tables.
-pub record Begins (line : List ℕ) (r : First) (sheet table : List ℕ) : Type 0 where
-  pub sheet₀ : List ℕ
-  pub table₀ : List ℕ
-  pub sheetRoom : length sheet₀ ≡ 3 * pslRules .most
-  pub tableRoom : length table₀ ≡ 3 * ltlRules .most
-  pub answers : FirstAnswer line sheet₀ table₀ r sheet table
-
--- Later lines, of which the first has number n, print `out`.
-abbrev pub LaterLines : List ℕ → List ℕ → ℕ → List (List ℕ) → List ℕ → Type 0
-LaterLines psl ltl n [] out = out ≡ []
-LaterLines psl ltl n (line ∷ ls) out =
-    (r : Later) × (rest : List ℕ) × LaterAnswer line psl ltl r × (out ≡ laterText n r ++ rest) × LaterLines psl ltl (suc n) ls rest
-
--- What is printed after the answer r to line 1, which left the two tables at the front of two lists: at a refusal the run stops.
-abbrev pub Continues : First → List ℕ → List ℕ → List (List ℕ) → List ℕ → Type 0
-Continues (First.Refused x) sheet table ls out = out ≡ refusedText 1 x
-Continues (First.Tables n s) sheet table ls out =
-    (rest : List ℕ) × (out ≡ tableText (take (3 * s) table) ++ rest) × LaterLines (take (3 * n) sheet) (take (3 * s) table) 2 ls rest
-
--- What the lines of a run print.
+-- Line 1 spells a formula within the limits, and its emitted table is printed, then the answers to the trace lines; or line 1 is refused, and its
+-- refusal is all.
 abbrev pub Prints : List (List ℕ) → List ℕ → Type 0
 Prints [] out = ⊥
-Prints (line ∷ ls) out = (r : First) × (sheet : List ℕ) × (table : List ℕ) × Begins line r sheet table × Continues r sheet table ls out
+Prints (line ∷ ls) out =
+    ((f : Formula) × (rest : List ℕ) × Takes formulaLine formulaLimits line f × (out ≡ tableText (emitted f) ++ rest) × PrintsTraces f 1 ls rest)
+    ⊎ ((x : Refusal) × Refuses formulaLine formulaLimits line x × (out ≡ refusedText 1 x))
 
 -- The run on an input prints `out`.
 abbrev pub Runs : List ℕ → List ℕ → Type 0
 Runs input out = Prints (inputLines input) out
-
--- ── The verdicts that are printed ──
-
--- Yes or no.
-abbrev pub Decided : Verdict → Type 0
-Decided Verdict.Yes = Unit {0}
-Decided Verdict.No = Unit {0}
-Decided (Verdict.Refused x) = ⊥
-
--- The verdicts on a trace line: the PSL verdict v is yes or no, and the LTL verdict w too, but for the line of the empty trace.
-pub record Judged (line : List ℕ) (v w : Verdict) : Type 0 where
-  pub psl : Decided v
-  pub ltl : (line ≡ traceLine [] [] → ⊥) → Decided w
-  pub empty : line ≡ traceLine [] [] → w ≡ Verdict.Refused (refused 16)
-
--- What holds of every trace line of a run that goes on after line 1; so `none` is printed for the empty trace, and for it alone.
-abbrev pub NoneIfEmpty : Type 0
-NoneIfEmpty =
-    (first sheet table line : List ℕ) (n s : ℕ) (v w : Verdict) → Begins first (First.Tables n s) sheet table
-    → LaterAnswer line (take (3 * n) sheet) (take (3 * s) table) (Later.Verdicts v w) → Judged line v w

@@ -2,7 +2,11 @@
 pub mod stream;
 mod text;
 
-ghost use Rattle.run.specs.Run.{FirstAnswer, LaterAnswer, Accepted};
+ghost use mathlib.Core.Path.{_≡_};
+ghost use lib.ListN.{length};
+ghost use Rattle.psl.specs.Formula.{Formula};
+ghost use Rattle.run.specs.Whole.{LaterAnswer};
+ghost use Rattle.run.specs.Inner.{TablesOf, Accepted, FirstAnswer};
 use lines::formula::Line;
 use lines::traces::TraceLine;
 use trace::Refusal;
@@ -10,26 +14,27 @@ use translate::Translation;
 use verdict::Verdict;
 
 // The nodes of the PSL table and of the LTL table.
-pub enum First {
+enum First {
     Tables { nodes: usize, size: usize },
     Refused(Refusal),
 }
 
 // Both verdicts, PSL and LTL.
-pub enum Later {
+enum Later {
     Verdicts(Verdict, Verdict),
     Refused(Refusal),
 }
 
-// Line 1: its PSL table into the one list, the translation into the other.
-pub fn first_line(line: &[u8], sheet: &mut [u16], table: &mut [u16]) -> First
-    ensures { λ r. ⌜ FirstAnswer (now (line .entry)) (now (sheet .entry)) (now (table .entry)) r (now (sheet .exit)) (now (table .exit)) ⌝ }
+// Line 1: its PSL table into the one list, the translation into the other. Each has room for the largest, so neither 23 nor 10 is due.
+fn first_line(line: &[u8], psl: &mut [u16], ltl: &mut [u16]) -> First
+    requires { ⌜ (length (now psl) ≡ 3072) × (length (now ltl) ≡ 12288) ⌝ }
+    ensures { λ r. ⌜ FirstAnswer (now (line .entry)) r (now (psl .exit)) (now (ltl .exit)) ⌝ }
 {
-    match lines::formula::read_formula(line, sheet) {
+    match lines::formula::read_formula(line, psl) {
         Line::Refused(x) => First::Refused(x),
         Line::Nodes(nodes) => {
             let end = 3 * nodes;
-            match translate::translate(&sheet[..end], table) {
+            match translate::translate(&psl[..end], ltl) {
                 Translation::Refused(x) => First::Refused(x),
                 Translation::Nodes(size) => First::Tables { nodes, size },
             }
@@ -37,18 +42,18 @@ pub fn first_line(line: &[u8], sheet: &mut [u16], table: &mut [u16]) -> First
     }
 }
 
-// A later line: both verdicts on its trace, by tables that were checked with line 1.
-fn later_line(line: &[u8], sheet: &[u16], table: &[u16]) -> Later
-    requires { ⌜ Accepted (now sheet) (now table) ⌝ }
-    ensures { λ r. ⌜ LaterAnswer (now (line .entry)) (now (sheet .entry)) (now (table .entry)) r ⌝ }
+// A later line: both verdicts on its trace, by the tables of line 1, which were checked with it.
+fn later_line(line: &[u8], psl: &[u16], ltl: &[u16]) -> Later
+    requires { ⌜ Accepted (now psl) (now ltl) ⌝ }
+    ensures { λ r. ⌜ ((f : Formula) → TablesOf f (now (psl .entry)) (now (ltl .entry)) → LaterAnswer f (now (line .entry)) r) ⌝ }
 {
     let mut lead = [0u32; 64];
     let mut cycle = [0u32; 64];
     match lines::traces::read_trace(line, &mut lead, &mut cycle) {
         TraceLine::Refused(x) => Later::Refused(x),
         TraceLine::Letters { lead: a, cycle: b } => Later::Verdicts(
-            verdict::judge_psl(sheet, &lead[..a], &cycle[..b]),
-            verdict::judge_ltl(table, &lead[..a], &cycle[..b]),
+            verdict::judge_psl(psl, &lead[..a], &cycle[..b]),
+            verdict::judge_ltl(ltl, &lead[..a], &cycle[..b]),
         ),
     }
 }

@@ -6,60 +6,54 @@ use crate::later_line;
 use crate::text::put_refused;
 use crate::text::put_table;
 use crate::text::put_trace;
+use libc::STDERR_FILENO;
 use libc::STDIN_FILENO;
 use libc::STDOUT_FILENO;
 ghost use mathlib.Core.Path.{_≡_};
-ghost use mathlib.Core.Bool.{true};
+ghost use mathlib.Core.Logic.{_⊎_};
+ghost use mathlib.Core.Bool.{true, false};
 ghost use Prim.Native.Nat.{_+_, _<_, _≤_};
 ghost use lib.ListN.{length};
-ghost use Rattle.run.specs.Run.{Accepted};
-ghost use Rattle.run.specs.Progress.{much, mostLines, Within, Stops, Stepped, Ended};
-ghost use Rattle.run.specs.Inner.{FirstDone, LaterDone, LineDone, Keeps, Same, Passed};
+ghost use Rattle.run.specs.Inner.{Accepted, longest, mostBlock, mostGathered, mostLines, Within, Gathered, FirstDone, LaterDone, LineDone, Keeps, Fed, Finished, Advanced, idle, stopped, Turned};
 
 // A line's bytes that are kept: one more than a line may have, so that a longer one is seen to be.
 const KEPT: usize = 16385;
-// Gathered answers above this are written before the next line.
-const MUCH: usize = 65536;
-// Room for that and for the longest answer, below 107,000 bytes: 4,096 node lines of at most 26 bytes.
-const ROOM: usize = 180224;
+// The most bytes of a block of input.
+const BLOCK: usize = 16384;
+// Room for what a block prints, at most 107,000 bytes for line 1 and 60 for each byte, and for one more answer to line 1.
+const ROOM: usize = 1200000;
 // Line numbers above this could overflow within a block of input.
-const MANY: u64 = u64::MAX - 65536;
+const MANY: u64 = u64::MAX - 16384;
 
 // What a run is made of between two bytes.
-pub struct State {
+struct State {
     // The number of the line, from 1, and how many of its bytes are kept.
-    pub number: u64,
-    pub filled: usize,
+    number: u64,
+    filled: usize,
     // The nodes of the PSL and of the LTL table.
-    pub nodes: usize,
-    pub size: usize,
+    nodes: usize,
+    size: usize,
     // The bytes gathered for output.
-    pub gathered: usize,
-    // The bytes of the block that are taken, and whether the run goes on.
-    pub taken: usize,
-    pub more: bool,
+    gathered: usize,
+    // Whether the run goes on, and whether it stopped because reading or writing failed.
+    more: bool,
+    failed: bool,
 }
 
-// Line 1: its answer's text goes behind what is gathered.
-fn answer_first(
-    line: &[u8],
-    sheet: &mut [u16],
-    table: &mut [u16],
-    out: &mut [u8],
-    s: State,
-) -> State
-    requires { ⌜ (s .gathered ≤ much) × (length (now sheet) ≡ 3072) × (length (now table) ≡ 12288) ⌝ }
-    ensures { λ r. ⌜ FirstDone (now (line .entry)) (now (sheet .entry)) (now (table .entry)) (now (out .entry)) s r (now (sheet .exit)) (now (table .exit)) (now (out .exit)) ⌝ }
+// Line 1: its answer's text is the first that is gathered.
+fn answer_first(line: &[u8], psl: &mut [u16], ltl: &mut [u16], out: &mut [u8]) -> State
+    requires { ⌜ (length (now psl) ≡ 3072) × (length (now ltl) ≡ 12288) × (longest < length (now out)) ⌝ }
+    ensures { λ r. ⌜ FirstDone (now (line .entry)) (now (out .entry)) r (now (psl .exit)) (now (ltl .exit)) (now (out .exit)) ⌝ }
 {
-    match first_line(line, sheet, table) {
+    match first_line(line, psl, ltl) {
         First::Refused(x) => State {
             number: 2,
             filled: 0,
             nodes: 0,
             size: 0,
-            gathered: put_refused(out, s.gathered, 1, x),
-            taken: s.taken,
+            gathered: put_refused(out, 0, 1, x),
             more: false,
+            failed: false,
         },
         First::Tables { nodes, size } => {
             let end = 3 * size;
@@ -68,9 +62,9 @@ fn answer_first(
                 filled: 0,
                 nodes,
                 size,
-                gathered: put_table(out, s.gathered, &table[..end]),
-                taken: s.taken,
+                gathered: put_table(out, 0, &ltl[..end]),
                 more: true,
+                failed: false,
             }
         }
     }
@@ -85,7 +79,7 @@ fn answer_later(
     number: u64,
     gathered: usize,
 ) -> usize
-    requires { ⌜ (0 < number) × (gathered ≤ much) × Accepted (now psl) (now ltl) ⌝ }
+    requires { ⌜ (0 < number) × (gathered + 60 < length (now out)) × Accepted (now psl) (now ltl) ⌝ }
     ensures { λ r. ⌜ LaterDone (now (line .entry)) (now (psl .entry)) (now (ltl .entry)) (now (out .entry)) number gathered (now (out .exit)) r ⌝ }
 {
     match later_line(line, psl, ltl) {
@@ -95,16 +89,16 @@ fn answer_later(
 }
 
 // The line that ends here is answered.
-fn end_line(line: &[u8], sheet: &mut [u16], table: &mut [u16], out: &mut [u8], s: State) -> State
-    requires { ⌜ Within much s (now line) (now sheet) (now table) (now out) × (s .more ≡ true) × (s .number < mostLines) ⌝ }
-    ensures { λ r. ⌜ LineDone (now (line .entry)) (now (sheet .entry)) (now (table .entry)) (now (out .entry)) s r (now (sheet .exit)) (now (table .exit)) (now (out .exit)) ⌝ }
+fn end_line(line: &[u8], psl: &mut [u16], ltl: &mut [u16], out: &mut [u8], s: State) -> State
+    requires { ⌜ Within s (now line) (now psl) (now ltl) (now out) × Gathered mostGathered s × (s .more ≡ true) × (s .number < mostLines) ⌝ }
+    ensures { λ r. ⌜ LineDone (now (line .entry)) (now (psl .entry)) (now (ltl .entry)) (now (out .entry)) s r (now (psl .exit)) (now (ltl .exit)) (now (out .exit)) ⌝ }
 {
     let filled = s.filled;
     if s.number <= 1 {
-        return answer_first(&line[..filled], sheet, table, out, s);
+        return answer_first(&line[..filled], psl, ltl, out);
     }
-    let psl = 3 * s.nodes;
-    let ltl = 3 * s.size;
+    let p = 3 * s.nodes;
+    let q = 3 * s.size;
     State {
         number: s.number + 1,
         filled: 0,
@@ -112,14 +106,14 @@ fn end_line(line: &[u8], sheet: &mut [u16], table: &mut [u16], out: &mut [u8], s
         size: s.size,
         gathered: answer_later(
             &line[..filled],
-            &sheet[..psl],
-            &table[..ltl],
+            &psl[..p],
+            &ltl[..q],
             out,
             s.number,
             s.gathered,
         ),
-        taken: s.taken,
         more: true,
+        failed: false,
     }
 }
 
@@ -134,34 +128,26 @@ fn keep(line: &mut [u8], at: usize, b: u8) -> usize
     at
 }
 
-// Whether the run is over, or its answers have to be written.
-fn stops(s: State) -> bool
-    ensures { λ r. ⌜ Stops s r ⌝ }
-{
-    if s.more { MUCH < s.gathered } else { true }
-}
-
-// Bytes of a block of input, from the first that is not taken yet. It stops early where the run is over, or where the caller has to write
-// what is gathered first.
-fn step(
+// All bytes of a block, or up to the end of a refused line 1.
+fn feed(
     block: &[u8],
     line: &mut [u8],
-    sheet: &mut [u16],
-    table: &mut [u16],
+    psl: &mut [u16],
+    ltl: &mut [u16],
     out: &mut [u8],
     s: State,
 ) -> State
-    requires { ⌜ Within much s (now line) (now sheet) (now table) (now out) × (s .more ≡ true) × (s .taken ≤ length (now block)) × (s .number + length (now block) ≤ s .taken + mostLines) ⌝ }
-    ensures { λ r. ⌜ Stepped (now (block .entry)) (now (line .entry)) (now (sheet .entry)) (now (table .entry)) (now (out .entry)) s r (now (line .exit)) (now (sheet .exit)) (now (table .exit)) (now (out .exit)) ⌝ }
+    requires { ⌜ Within s (now line) (now psl) (now ltl) (now out) × Gathered 0 s × (s .more ≡ true) × (length (now block) ≤ mostBlock) × (s .number + length (now block) ≤ mostLines) ⌝ }
+    ensures { λ r. ⌜ Fed (now (block .entry)) (now (line .entry)) (now (psl .entry)) (now (ltl .entry)) s r (now (line .exit)) (now (psl .exit)) (now (ltl .exit)) (now (out .exit)) ⌝ }
 {
     let mut r = s;
-    while r.taken < block.len() {
-        let i = r.taken;
+    let mut i: usize = 0;
+    while i < block.len() {
         let b = block[i];
-        r.taken = i + 1;
+        i += 1;
         if b == 10 {
-            r = end_line(line, sheet, table, out, r);
-            if stops(r) {
+            r = end_line(line, psl, ltl, out, r);
+            if !r.more {
                 return r;
             }
         } else {
@@ -172,86 +158,93 @@ fn step(
 }
 
 // The input's end: a last line without byte 10; an input without any line is an empty first one.
-fn last(line: &[u8], sheet: &mut [u16], table: &mut [u16], out: &mut [u8], s: State) -> State
-    requires { ⌜ Within much s (now line) (now sheet) (now table) (now out) × (s .more ≡ true) × (s .number < mostLines) ⌝ }
-    ensures { λ r. ⌜ Ended (now (line .entry)) (now (sheet .entry)) (now (table .entry)) (now (out .entry)) s r (now (sheet .exit)) (now (table .exit)) (now (out .exit)) ⌝ }
+fn finish(line: &[u8], psl: &mut [u16], ltl: &mut [u16], out: &mut [u8], s: State) -> State
+    requires { ⌜ Within s (now line) (now psl) (now ltl) (now out) × Gathered 0 s × (s .more ≡ true) × (s .number < mostLines) ⌝ }
+    ensures { λ r. ⌜ Finished (now (line .entry)) (now (psl .entry)) (now (ltl .entry)) s r (now (psl .exit)) (now (ltl .exit)) (now (out .exit)) ⌝ }
 {
     if s.filled == 0 {
         if 1 < s.number {
             return s;
         }
     }
-    end_line(line, sheet, table, out, s)
+    end_line(line, psl, ltl, out, s)
 }
 
-// Gathered answers are written; the run ends where they cannot be.
-fn written(out: &[u8], s: State) -> State
-    requires { ⌜ s .gathered ≤ length (now out) ⌝ }
-    ensures { λ r. ⌜ Same s r × (r .gathered ≡ 0) ⌝ }
-{
-    let end = s.gathered;
-    let whole = io::write_all(STDOUT_FILENO, &out[..end]);
-    State {
-        number: s.number,
-        filled: s.filled,
-        nodes: s.nodes,
-        size: s.size,
-        gathered: 0,
-        taken: s.taken,
-        more: s.more && whole,
-    }
-}
-
-// All of a block of input: where a step stops, the gathered answers are written.
-fn pass(
+// A block of input, the empty one being the input's end. What it prints is gathered from the start.
+fn advance(
     block: &[u8],
     line: &mut [u8],
-    sheet: &mut [u16],
-    table: &mut [u16],
+    psl: &mut [u16],
+    ltl: &mut [u16],
     out: &mut [u8],
     s: State,
 ) -> State
-    requires { ⌜ Within much s (now line) (now sheet) (now table) (now out) × (s .more ≡ true) × (s .number + length (now block) ≤ mostLines) ⌝ }
-    ensures { λ r. ⌜ Passed (now (block .entry)) (now (line .entry)) (now (sheet .entry)) (now (table .entry)) (now (out .entry)) s r (now (line .exit)) (now (sheet .exit)) (now (table .exit)) (now (out .exit)) ⌝ }
+    requires { ⌜ Within s (now line) (now psl) (now ltl) (now out) × (s .more ≡ true) × (length (now block) ≤ mostBlock) × (s .number + mostBlock ≤ mostLines) ⌝ }
+    ensures { λ r. ⌜ Advanced (now (block .entry)) (now (line .entry)) (now (psl .entry)) (now (ltl .entry)) s r (now (line .exit)) (now (psl .exit)) (now (ltl .exit)) (now (out .exit)) ⌝ }
 {
     let mut r = s;
-    r.taken = 0;
-    while r.taken < block.len() {
-        r = step(block, line, sheet, table, out, r);
-        r = written(out, r);
-        if !r.more {
-            return r;
-        }
+    r.gathered = 0;
+    if block.len() == 0 {
+        r = finish(line, psl, ltl, out, r);
+        r.more = false;
+        return r;
     }
+    feed(block, line, psl, ltl, out, r)
+}
+
+// The run stops before its input ends.
+fn stop(s: State) -> State
+    ensures { λ r. ⌜ r ≡ stopped s ⌝ }
+{
+    let mut r = s;
+    r.gathered = 0;
+    r.more = false;
+    r.failed = true;
     r
 }
 
-// One block of input, or its end. A run of more lines than can be counted ends too.
-fn turn(line: &mut [u8], sheet: &mut [u16], table: &mut [u16], out: &mut [u8], s: State) -> State
-    requires { ⌜ Within much s (now line) (now sheet) (now table) (now out) × (s .more ≡ true) ⌝ }
-    ensures { λ r. ⌜ Within much r (now (line .exit)) (now (sheet .exit)) (now (table .exit)) (now (out .exit)) ⌝ }
+// A read failed. One that was interrupted is tried again; any other is told and stops the run, so that half a line is never taken for one.
+fn unread(s: State) -> State
+    ensures { λ r. ⌜ (r ≡ idle s) ⊎ (r ≡ stopped s) ⌝ }
 {
-    let mut r = s;
-    if MANY < r.number {
-        r.more = false;
+    if os::errno() == libc::EINTR {
+        let mut r = s;
+        r.gathered = 0;
         return r;
     }
-    let mut block = io::large_buffer();
-    let n = io::count(libc::read(STDIN_FILENO, &mut block), &block);
-    if n == 0 {
-        r = last(line, sheet, table, out, r);
-        r = written(out, r);
-        r.more = false;
+    os::fail(b"psl2ltl: standard input");
+    stop(s)
+}
+
+// One block: it is read, taken, and what it prints is written. A run of more lines than can be counted stops too.
+fn turn(line: &mut [u8], psl: &mut [u16], ltl: &mut [u16], out: &mut [u8], s: State) -> State
+    requires { ⌜ Within s (now line) (now psl) (now ltl) (now out) × (s .more ≡ true) ⌝ }
+    ensures { λ r. ⌜ Turned (now (line .entry)) (now (psl .entry)) (now (ltl .entry)) s r (now (line .exit)) (now (psl .exit)) (now (ltl .exit)) (now (out .exit)) ⌝ }
+{
+    if MANY < s.number {
+        io::write_all(STDERR_FILENO, b"psl2ltl: more lines than can be counted\n");
+        return stop(s);
+    }
+    let mut block = [0u8; BLOCK];
+    let got = libc::read(STDIN_FILENO, &mut block);
+    if got < 0 {
+        return unread(s);
+    }
+    let n = io::count(got, &block);
+    let r = advance(&block[..n], line, psl, ltl, out, s);
+    let end = r.gathered;
+    if io::write_all(STDOUT_FILENO, &out[..end]) {
         return r;
     }
-    pass(&block[..n], line, sheet, table, out, r)
+    os::fail(b"psl2ltl: standard output");
+    stop(r)
 }
 
 // Standard input to its end, or to a refused first line.
 pub fn whole() {
     let mut line = [0u8; KEPT];
-    let mut sheet = [0u16; 3072];
-    let mut table = [0u16; 12288];
+    let mut psl = [0u16; 3072];
+    let mut ltl = [0u16; 12288];
     let mut out = [0u8; ROOM];
     let mut s = State {
         number: 1,
@@ -259,12 +252,12 @@ pub fn whole() {
         nodes: 0,
         size: 0,
         gathered: 0,
-        taken: 0,
         more: true,
+        failed: false,
     };
     let mut turns = u64::MAX;
     while turns > 0 {
-        s = turn(&mut line, &mut sheet, &mut table, &mut out, s);
+        s = turn(&mut line, &mut psl, &mut ltl, &mut out, s);
         turns = if s.more { turns - 1 } else { 0 };
     }
 }

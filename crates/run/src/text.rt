@@ -11,7 +11,6 @@ ghost use Rattle.run.specs.Printed.{refusedText, verdictText, traceText,
 
 // `(refused L R)`
 pub fn put_refused(out: &mut [u8], at: usize, line: u64, x: Refusal) -> usize
-    requires { ⌜ at ≤ 100000 ⌝ }
     ensures { λ r. ⌜ Wrote (refusedText line x) (now (out .entry)) (now (out .exit)) at r × (r ≤ at + 60) ⌝ }
 {
     let a = put_text(out, at, b"(refused ");
@@ -22,7 +21,6 @@ pub fn put_refused(out: &mut [u8], at: usize, line: u64, x: Refusal) -> usize
 }
 
 fn put_verdict(out: &mut [u8], at: usize, v: Verdict) -> usize
-    requires { ⌜ at ≤ 200000 ⌝ }
     ensures { λ r. ⌜ Wrote (verdictText v) (now (out .entry)) (now (out .exit)) at r × (r ≤ at + 4) ⌝ }
 {
     match v {
@@ -34,7 +32,6 @@ fn put_verdict(out: &mut [u8], at: usize, v: Verdict) -> usize
 
 // `(trace I psl V ltl W)`
 pub fn put_trace(out: &mut [u8], at: usize, trace: u64, psl: Verdict, ltl: Verdict) -> usize
-    requires { ⌜ at ≤ 100000 ⌝ }
     ensures { λ r. ⌜ Wrote (traceText trace psl ltl) (now (out .entry)) (now (out .exit)) at r × (r ≤ at + 60) ⌝ }
 {
     let a = put_text(out, at, b"(trace ");
@@ -48,7 +45,7 @@ pub fn put_trace(out: &mut [u8], at: usize, trace: u64, psl: Verdict, ltl: Verdi
 
 // `(ltl S)` and the node lines of an LTL table.
 pub fn put_table(out: &mut [u8], at: usize, t: &[u16]) -> usize
-    requires { ⌜ (at ≤ 100000) × (length (now t) ≤ 12288) ⌝ }
+    requires { ⌜ length (now t) ≤ 12288 ⌝ }
     ensures { λ r. ⌜ Wrote (tableText (now (t .entry))) (now (out .entry)) (now (out .exit)) at r × (r ≤ at + 107000) ⌝ }
 {
     let nodes = t.len() / 3;

@@ -12,7 +12,7 @@ use Rattle.psl.specs.Formula.{BoolExpr, btrue, var, bnot, band, Formula, weak, 
 use Rattle.psl.specs.Check.{pslRefusal}
 use Rattle.psl.specs.Parts.{booleanAt, formulaAt}
 use Rattle.psl.proofs.AcceptedLaw.{Boolean, Formula as IsFormula, kind-known, is-bnot, is-band, is-weak, is-strong, is-and, is-until}
-use Rattle.translate.specs.Emitted.{notN, andN, nextN, untilN, adds, walkB, gate, literal, walk}
+use Rattle.translate.specs.Emitted.{varN, notN, andN, nextN, untilN, adds, walkB, gate, literal, walk}
 use Rattle.translate.specs.Stored.{Walks}
 use Rattle.translate.proofs.StoredLaw.{walks-then, walks-both}
 
@@ -98,7 +98,7 @@ pub arm-true : {b : BoolExpr} {n m : ℕ} {old now : List ℕ} → b ≡ btrue �
 unfolding walkB weighB adds
 arm-true e w = as-boolean e w
 
-pub arm-var : {b : BoolExpr} {k n m : ℕ} {old now : List ℕ} → b ≡ var k → Node1 1 k 0 n m old now → WalksB b n m old now
+pub arm-var : {b : BoolExpr} {k n m : ℕ} {old now : List ℕ} → b ≡ var k → Walks 1 (λ ns. ns ▸ varN k) n m old now → WalksB b n m old now
 unfolding walkB weighB adds
 arm-var e w = as-boolean e w
 

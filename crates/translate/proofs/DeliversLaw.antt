@@ -1,5 +1,6 @@
 -- From the walk over the table to the translator's answer.
 use mathlib.Core.Path.{_≡_, refl, sym, ap, subst, _∙_}
+use mathlib.Core.Bool.{Bool, true, false}
 use mathlib.Core.Option.{Option, none, some}
 use mathlib.Core.List.{List, [], _∷_, _++_}
 use Prim.Native.Nat.{ℕ, zero, suc, _+_, _*_, _-_, _≤_, _<_}
@@ -7,11 +8,11 @@ use native.Mathlib.Omega.{arith}
 use lib.Dec.{leb}
 use lib.ListN.{length, take, drop}
 use lib.Seq.{sets, sets-eq, take-at}
-use borrow.Author.Tests.{le-leb, lt-leb}
+use borrow.Author.Tests.{le-leb, lt-leb, leb-true}
 use Rattle.trace.specs.declared.Refusal.{Refusal}
 use Rattle.table.specs.Answer.{refused}
 use Rattle.table.specs.Node.{Node, node, _▸_, count, kindAt}
-use Rattle.table.specs.Check.{total}
+use Rattle.table.specs.Check.{unless, orElse, total}
 use Rattle.psl.specs.Formula.{Formula, weigh}
 use Rattle.psl.specs.Table.{formulaOf}
 use Rattle.psl.specs.Check.{pslRefusal}
@@ -19,14 +20,14 @@ use Rattle.psl.specs.Parts.{formulaAt}
 use Rattle.psl.proofs.PartLaw.{part-root}
 use Rattle.psl.proofs.TreeLaw.{tree-weight, tree-nodes}
 use Rattle.psl.proofs.AcceptedLaw.{most-nodes}
-use Rattle.translate.specs.Emitted.{adds, walk, emitted, emittedSize}
-use Rattle.translate.specs.Claim.{Translates}
+use Rattle.translate.specs.Emitted.{adds, walk, emitted, emittedSize, mostEmitted}
 use Rattle.translate.specs.Stored.{Stored, Walks}
-use Rattle.translate.specs.Answer.{translateRefusal, answer, left, Delivers}
+use Rattle.translate.specs.Answer.{translateRefusal, answer, left, Delivered, Delivers}
 use Rattle.translate.specs.declared.Translation.{Translation}
 use Rattle.translate.specs.declared.Translation.the-variants.{Nodes, Refused}
 use Rattle.translate.proofs.WalkLaw.{length-emitted, size-bound}
 use Rattle.translate.proofs.TranslatesLaw.{translates}
+use Rattle.translate.proofs.EmittedLaw.{emitted-accepted}
 
 -- ── The size, by the table's kinds ──
 
@@ -72,7 +73,7 @@ size-last {t} {n} {s} {i} e h S =
 pub size-of : (t : List ℕ) → emittedSize (formulaOf t) ≡ 2 + weigh adds (formulaAt t (count t - 1))
 size-of t = ap emittedSize (part-root t)
 
-pub size-most : (t : List ℕ) → pslRefusal t ≡ none → emittedSize (formulaOf t) ≤ 4094
+pub size-most : (t : List ℕ) → pslRefusal t ≡ none → emittedSize (formulaOf t) ≤ mostEmitted
 size-most t e = size-bound (formulaOf t) (omega (arith, tree-nodes t e, most-nodes t e))
 
 -- ── What the walk leaves ──
@@ -94,7 +95,7 @@ emits t {l} {o₁} {o₂} {o₃} {p} {q} {r} room a b c =
 
 module _ (t l : List ℕ) where
   refuses : {x : Refusal} → translateRefusal t (length l) ≡ some x → Delivers t l (Refused x) l
-  refuses e = record { answers = rw e; leaves = rw e; keeps = λ s z. absurd (let y : _≡_ {A = ℕ} 0 1 = cc in omega arith) }
+  refuses e = record { answers = rw e; leaves = rw e; succeeds = λ s z. absurd (let y : _≡_ {A = ℕ} 0 1 = cc in omega arith) }
 
   pub refused-check : {x : Refusal} → pslRefusal t ≡ some x → Delivers t l (Refused x) l
   unfolding translateRefusal
@@ -103,6 +104,12 @@ module _ (t l : List ℕ) where
   pub refused-room : pslRefusal t ≡ none → length l < 3 * emittedSize (formulaOf t) → Delivers t l (Refused (refused 10)) l
   unfolding translateRefusal
   refused-room e h = refuses (rw (e, lt-leb (3 * emittedSize (formulaOf t)) (length l) h))
+
+  emitted-delivered : {s : ℕ} → pslRefusal t ≡ none → s ≡ emittedSize (formulaOf t) → Delivered (formulaOf t) s (emitted (formulaOf t))
+  emitted-delivered e z =
+      let f = formulaOf t in
+      let most = size-most t e in
+      record { is = refl; sized = omega (arith, length-emitted f); bounded = omega arith; passes = emitted-accepted t e (omega arith); keeps = translates f }
 
   pub delivered : {s : ℕ} {m : List ℕ} → pslRefusal t ≡ none → s ≡ emittedSize (formulaOf t) → 3 * s ≤ length l
       → m ≡ emitted (formulaOf t) ++ drop (length (emitted (formulaOf t))) l → Delivers t l (Nodes s) m
@@ -113,8 +120,21 @@ module _ (t l : List ℕ) where
       record {
         answers = rw n (ap Nodes z);
         leaves = rw n c;
-        keeps = λ k d.
+        succeeds = λ k d.
             let i : k ≡ s = cc in
             let y : take (3 * k) m ≡ emitted f = ap (take (3 * k)) c ∙ take-at (emitted f) (drop (length (emitted f)) l) (3 * k) (omega (arith, length-emitted f)) in
-            subst (Translates f) (sym y) (translates f);
+            subst (Delivered f k) (sym y) (emitted-delivered e (i ∙ z));
       }
+
+-- An answer that is a size: nothing is refused.
+told-size : (o : Option Refusal) (b : Bool) (x : Refusal) (n s : ℕ) → Nodes s ≡ answer (orElse o (unless b x none)) n → (o ≡ none) × (b ≡ true) × (s ≡ n)
+told-size (some y) b x n s e = let z : _≡_ {A = ℕ} 0 1 = cc in absurd (omega arith)
+told-size none true x n s e = (refl, refl, cc)
+told-size none false x n s e = let z : _≡_ {A = ℕ} 0 1 = cc in absurd (omega arith)
+
+pub was-accepted : (t l : List ℕ) (s : ℕ) (m : List ℕ) → Delivers t l (Nodes s) m → (pslRefusal t ≡ none) × (s ≡ emittedSize (formulaOf t)) × (3 * s ≤ length l)
+unfolding translateRefusal
+was-accepted t l s m d =
+    let size = emittedSize (formulaOf t) in
+    let (e, b, z) = told-size (pslRefusal t) (leb (3 * size) (length l)) (refused 10) size s (d .answers) in
+    (e, z, omega (arith, leb-true (3 * size) (length l) b))

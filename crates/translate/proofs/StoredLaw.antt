@@ -20,21 +20,24 @@ numbers-more [] k l r = refl
 numbers-more (node k′ l′ r′ ∷ ns) k l r = ap (λ (xs : List ℕ). k′ ∷ l′ ∷ r′ ∷ xs) (numbers-more ns k l r)
 
 -- Three stores at node n, where n nodes are stored.
-pub walks-node : (k x y n : ℕ) (old : List ℕ)
-    → Walks 1 (λ ns. ns ▸ node k x y) n (n + 1) old (set (set (set old (3 * n) k) (3 * n + 1) x) (3 * n + 2) y)
-walks-node k x y n old = record { next = refl; stores = go }
+pub walks-node : (k x y n : ℕ) {old one two now : List ℕ} → one ≡ set old (3 * n) k → two ≡ set one (3 * n + 1) x → now ≡ set two (3 * n + 2) y
+    → Walks 1 (λ ns. ns ▸ node k x y) n (n + 1) old now
+walks-node k x y n {old} {one} {two} {now} a b c = record { next = refl; stores = go }
   where
-    go : (l : List ℕ) (ns : List Node) → Stored l ns n old → Stored l (ns ▸ node k x y) (n + 1) (set (set (set old (3 * n) k) (3 * n + 1) x) (3 * n + 2) y)
+    same : sets old (3 * n) (k ∷ x ∷ y ∷ []) ≡ now
+    same =
+        let second : suc (3 * n) ≡ 3 * n + 1 = omega arith in
+        let third : suc (suc (3 * n)) ≡ 3 * n + 2 = omega arith in
+        cc
+
+    go : (l : List ℕ) (ns : List Node) → Stored l ns n old → Stored l (ns ▸ node k x y) (n + 1) now
     go l ns h =
         let at : 0 + length (numbersOf ns) ≡ 3 * n = omega (arith, length-numbers ns, h .count) in
         let e : sets l 0 (numbersOf (ns ▸ node k x y)) ≡ sets old (3 * n) (k ∷ x ∷ y ∷ []) =
         ap (sets l 0) (numbers-more ns k x y) ∙ sets-append l 0 (numbersOf ns) (k ∷ x ∷ y ∷ [])
         ∙ ap (λ (i : ℕ). sets (sets l 0 (numbersOf ns)) i (k ∷ x ∷ y ∷ [])) at
         ∙ ap (λ (m : List ℕ). sets m (3 * n) (k ∷ x ∷ y ∷ [])) (sym (h .is)) in
-        let s : sets old (3 * n) (k ∷ x ∷ y ∷ []) ≡ set (set (set old (3 * n) k) (3 * n + 1) x) (3 * n + 2) y =
-        ap (λ (i : ℕ). set (set (set old (3 * n) k) i x) (suc (suc (3 * n))) y) (omega arith)
-        ∙ ap (λ (i : ℕ). set (set (set old (3 * n) k) (3 * n + 1) x) i y) (omega arith) in
-        record { count = omega (arith, length-more ns (node k x y), h .count); is = sym (e ∙ s) }
+        record { count = omega (arith, length-more ns (node k x y), h .count); is = sym (e ∙ same) }
 
 -- ── Walks one after the other: an operand is named by the number before the next ──
 

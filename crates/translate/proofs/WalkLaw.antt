@@ -10,7 +10,7 @@ use Rattle.psl.specs.Formula.{BoolExpr, btrue, var, bnot, band, Formula, weak, 
 use Rattle.ltl.specs.Tree.{Ltl, ltrue, lvar, lnot, land, lor, lnext, luntil}
 use Rattle.ltl.specs.Table.{treeOfNode, treeOf}
 use Rattle.translate.specs.Translation.{treeB, translated, nothing}
-use Rattle.translate.specs.Emitted.{trueN, varN, notN, andN, orN, nextN, untilN, walkB, gate, walk, emittedNodes, emitted, adds, emittedSize}
+use Rattle.translate.specs.Emitted.{trueN, varN, notN, andN, orN, nextN, untilN, walkB, gate, walk, emittedNodes, emitted, adds, emittedSize, mostEmitted}
 
 -- ── What the walk appends ──
 
@@ -128,7 +128,7 @@ tree-emitted f =
 
 -- ── The size ──
 
-length-gate : (i a r : ℕ) (ns : List Node) → length (gate i a r ns) ≡ length ns + 3
+pub length-gate : (i a r : ℕ) (ns : List Node) → length (gate i a r ns) ≡ length ns + 3
 length-gate i a r ns =
     let ms = ns ▸ notN r in
     let ps = ms ▸ andN i (last ms) in
@@ -189,5 +189,5 @@ adds-bound (until f g) = omega (arith, adds-bound f, adds-bound g)
 adds-bound (abort f b) = omega (arith, adds-bound f, addsB b .0, addsB b .1)
 
 -- The largest table that a formula of at most 1,024 nodes emits has 4,094 nodes.
-pub size-bound : (f : Formula) → nodeCount f ≤ 1024 → emittedSize f ≤ 4094
+pub size-bound : (f : Formula) → nodeCount f ≤ 1024 → emittedSize f ≤ mostEmitted
 size-bound f h = omega (arith, adds-bound f)

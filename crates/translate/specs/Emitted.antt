@@ -66,3 +66,7 @@ adds k = getD (1 ∷ 1 ∷ 1 ∷ 1 ∷ 3 ∷ 3 ∷ 1 ∷ 1 ∷ 4 ∷ 1 ∷ 3 ∷
 -- The size S.
 abbrev pub emittedSize : Formula → ℕ
 emittedSize f = 2 + weigh adds f
+
+-- The largest size of a formula of at most 1,024 nodes.
+abbrev pub mostEmitted : ℕ
+mostEmitted = 4094

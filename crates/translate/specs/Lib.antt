@@ -4,3 +4,4 @@ pub mod Claim
 pub mod Stored
 pub mod Worked
 pub mod Answer
+pub mod Claims

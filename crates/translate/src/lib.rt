@@ -4,7 +4,7 @@ ghost use mathlib.Core.Bool.{cond};
 ghost use mathlib.Core.Option.{none};
 ghost use mathlib.Core.List.{_++_};
 ghost use Prim.Native.Nat.{_+_, _*_, _<_, _≤_};
-ghost use lib.ListN.{length, drop};
+ghost use lib.ListN.{length, set, drop};
 ghost use lib.Dec.{eqb};
 ghost use Rattle.table.specs.Node.{node, _▸_, count, kindAt};
 ghost use Rattle.psl.specs.Formula.{weighB, weigh};
@@ -18,15 +18,23 @@ use table::Checked;
 use table::NodeNo;
 use trace::Refusal;
 
+// A number into a place of the list.
+fn put(out: &mut [u16], at: usize, number: u16)
+    requires { ⌜ at < length (now out) ⌝ }
+    ensures { λ _. ⌜ now (out .exit) ≡ set (now (out .entry)) at number ⌝ }
+{
+    out[at] = number;
+}
+
 // A node behind those that are there; the number of the next one comes back.
 fn append(out: &mut [u16], n: NodeNo, kind: u16, left: u16, right: u16) -> NodeNo
     requires { ⌜ Room 1 (n .0) (now out) ⌝ }
     ensures { λ m. ⌜ Walks 1 (λ ns. ns ▸ node kind left right) (n .0) (m .0) (now (out .entry)) (now (out .exit)) ⌝ }
 {
     let at = 3 * (n.0 as usize);
-    out[at] = kind;
-    out[at + 1] = left;
-    out[at + 2] = right;
+    put(out, at, kind);
+    put(out, at + 1, left);
+    put(out, at + 2, right);
     NodeNo(n.0 + 1)
 }
 

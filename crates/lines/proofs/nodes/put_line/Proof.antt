@@ -1,9 +1,8 @@
 -- The parts, one after the other.
-use native.Mathlib.Omega.{arith}
 use mathlib.Core.Path.{subst}
 use Prim.Native.Nat.{ℕ}
 use Rattle.lines.specs.Inner.Writer.{Wrote, spaced}
-use Rattle.lines.proofs.WriterLaw.{number-end, word-end, numbers-end, line-wrote}
+use Rattle.lines.proofs.WriterLaw.{line-wrote}
 use borrow.Author.Needs.{needs}
 use Rattle.lines.proofs.nodes.put_line.Statement.{statement}
 use Rattle.lines.proofs.nodes.put_line.Tie as tie
@@ -21,51 +20,22 @@ slice-aggregate-put-text-2 : tie.Need-slice-aggregate-put-text-2
 slice-aggregate-put-text-2 c = search needs
 
 put-text-requires-2 : tie.Need-put-text-requires-2
-put-text-requires-2 c κs =
-    let at-pre = c .before .before .before .before .before .before .before .before .before .before .before .before .pre in
-    let at-put-text = c .before .before .before .before .before .before .before .before .put-text in
-    let at-fits = c .before .before .before .before .before .before .before .before .before .before .before .before .fits in
-    let at-put-number = c .before .before .before .before .put-number in
-    omega (arith, at-pre, at-put-text .ensures .ends, number-end (omega (arith, at-fits .own .fits)) (at-put-number .ensures))
+put-text-requires-2 c κs = search needs
 
 put-word-requires : tie.Need-put-word-requires
-put-word-requires c κs =
-    let at-pre = c .before .before .before .before .before .before .before .before .before .before .before .before .before .before .before .before .pre in
-    let at-put-text = c .before .before .before .before .before .before .before .before .before .before .before .before .put-text in
-    let at-fits = c .before .before .before .before .before .before .before .before .before .before .before .before .before .before .before .before .fits in
-    let at-put-number = c .before .before .before .before .before .before .before .before .put-number in
-    let at-put-text2 = c .before .before .before .put-text2 in
-    omega (arith, at-pre, at-put-text .ensures .ends, number-end (omega (arith, at-fits .own .fits)) (at-put-number .ensures), at-put-text2 .ensures .ends)
+put-word-requires c κs = search needs
 
 places-requires : tie.Need-places-requires
 places-requires c κs = search needs
 
 put-numbers-requires : tie.Need-put-numbers-requires
-put-numbers-requires c κs =
-    let at-pre = c .before .before .before .before .before .before .before .before .before .before .before .before .before .before .before .before .before .before .before .before .before .pre in
-    let at-put-text = c .before .before .before .before .before .before .before .before .before .before .before .before .before .before .before .before .before .put-text in
-    let at-fits = c .before .before .before .before .before .before .before .before .before .before .before .before .before .before .before .before .before .before .before .before .before .fits in
-    let at-put-number = c .before .before .before .before .before .before .before .before .before .before .before .before .before .put-number in
-    let at-put-text2 = c .before .before .before .before .before .before .before .before .put-text2 in
-    let x = c .before .before .before .before .before .before .before .before .before .before .before .before .before .before .before .before .before .before .before .before .before .args in
-    let at-put-word = c .before .before .before .before .put-word in
-    omega (arith, at-pre, at-put-text .ensures .ends, number-end (omega (arith, at-fits .own .fits)) (at-put-number .ensures), at-put-text2 .ensures .ends, word-end (x .kind) (at-put-word .ensures))
+put-numbers-requires c κs = search needs
 
 slice-aggregate-put-text-3 : tie.Need-slice-aggregate-put-text-3
 slice-aggregate-put-text-3 c = search needs
 
 put-text-requires-3 : tie.Need-put-text-requires-3
-put-text-requires-3 c κs =
-    let at-pre = c .before .before .before .before .before .before .before .before .before .before .before .before .before .before .before .before .before .before .before .before .before .before .before .before .before .before .pre in
-    let at-put-text = c .before .before .before .before .before .before .before .before .before .before .before .before .before .before .before .before .before .before .before .before .before .before .put-text in
-    let at-fits = c .before .before .before .before .before .before .before .before .before .before .before .before .before .before .before .before .before .before .before .before .before .before .before .before .before .before .fits in
-    let at-put-number = c .before .before .before .before .before .before .before .before .before .before .before .before .before .before .before .before .before .before .put-number in
-    let at-put-text2 = c .before .before .before .before .before .before .before .before .before .before .before .before .before .put-text2 in
-    let x = c .before .before .before .before .before .before .before .before .before .before .before .before .before .before .before .before .before .before .before .before .before .before .before .before .before .before .args in
-    let at-put-word = c .before .before .before .before .before .before .before .before .before .put-word in
-    let at-places = c .before .before .before .before .before .places in
-    let at-put-numbers = c .before .before .before .before .put-numbers in
-    omega (arith, at-pre, at-put-text .ensures .ends, number-end (omega (arith, at-fits .own .fits)) (at-put-number .ensures), at-put-text2 .ensures .ends, word-end (x .kind) (at-put-word .ensures), numbers-end (at-places .result) (x .left) (x .right) (omega arith) (omega arith) (at-put-numbers .ensures))
+put-text-requires-3 c κs = search needs
 
 same-length : tie.Need-same-length
 same-length c = search needs

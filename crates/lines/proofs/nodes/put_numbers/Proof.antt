@@ -1,6 +1,5 @@
 -- None, one or two numbers.
-use native.Mathlib.Omega.{arith}
-use Rattle.lines.proofs.WriterLaw.{number-end, no-number, one-number, two-numbers}
+use Rattle.lines.proofs.WriterLaw.{no-number, one-number, two-numbers}
 use borrow.Author.Needs.{needs}
 use Rattle.lines.proofs.nodes.put_numbers.Statement.{statement}
 use Rattle.lines.proofs.nodes.put_numbers.Tie as tie
@@ -35,19 +34,10 @@ slice-aggregate-put-text-2 : tie.Need-slice-aggregate-put-text-2
 slice-aggregate-put-text-2 c = search needs
 
 put-text-requires-2 : tie.Need-put-text-requires-2
-put-text-requires-2 c κs =
-    let at-pre = c .before .before .before .before .before .before .before .before .before .before .before .before .before .before .pre in
-    let at-put-text = c .before .before .before .before .before .before .before .before .before .put-text in
-    let at-put-number = c .before .before .before .before .before .put-number in
-    omega (arith, at-pre, at-put-text .ensures .ends, number-end (omega arith) (at-put-number .ensures))
+put-text-requires-2 c κs = search needs
 
 put-number-requires-2 : tie.Need-put-number-requires-2
-put-number-requires-2 c κs =
-    let at-pre = c .before .before .before .before .before .before .before .before .before .before .before .before .before .before .before .before .before .before .pre in
-    let at-put-text = c .before .before .before .before .before .before .before .before .before .before .before .before .before .put-text in
-    let at-put-number = c .before .before .before .before .before .before .before .before .before .put-number in
-    let at-put-text2 = c .before .before .before .put-text2 in
-    omega (arith, at-pre, at-put-text .ensures .ends, number-end (omega arith) (at-put-number .ensures), at-put-text2 .ensures .ends)
+put-number-requires-2 c κs = search needs
 
 same-length-2 : tie.Need-same-length-2
 same-length-2 c = search needs

@@ -1,5 +1,8 @@
--- Each refusal first; then the line with no room gives its length, and the same writer fills the lent bytes.
+-- Each refusal first; then the line written aside gives its length, and its bytes are put into the lent list.
 use native.Mathlib.Omega.{arith}
+use mathlib.Core.Path.{sym}
+use lib.Seq.{length-take-le}
+use Rattle.lines.proofs.WriterLaw.{line-length, wrote-length}
 use Rattle.lines.proofs.NodeLaw.{own-large, faulty, no-room, line-written}
 use borrow.Author.Needs.{needs}
 use Rattle.lines.proofs.nodes.write_node.Statement.{statement}
@@ -34,10 +37,19 @@ returns-2 c =
     let at-enum-told = c .before .before .before .before .enum-told in
     let at-put-line = c .before .before .put-line in
     let at-if2 = c .if2 in
-    no-room (x .no .0) (x .kind) (x .left) (x .right) (x .out .now) (omega (arith, at-if1 .left)) (at-check-alone .result) (at-check-alone .ensures) (at-enum-told .given .1) (at-put-line .result) (at-put-line .ensures) (at-if2 .taken)
+    let short = line-length (x .no .0) (x .kind) (x .left) (x .right) (omega arith) (omega arith) (omega arith) in
+    no-room (x .no .0) (x .kind) (x .left) (x .right) (x .out .now) (omega (arith, at-if1 .left)) (at-check-alone .result) (at-check-alone .ensures) (at-enum-told .given .1) (at-put-line .result) (at-put-line .ensures) (omega (arith, short)) (at-if2 .taken)
 
-put-line-requires-2 : tie.Need-put-line-requires-2
-put-line-requires-2 c κs = search needs
+array-share-prefix-line : tie.Need-array-share-prefix-line
+array-share-prefix-line c = search needs
+
+slice-aggregate-put-text : tie.Need-slice-aggregate-put-text
+slice-aggregate-put-text c =
+    let at-put-line = c .before .before .before .before .put-line in
+    sym (length-take-le (at-put-line .result) (at-put-line .last .0) (omega (arith, wrote-length (at-put-line .ensures), at-put-line .ensures .ends)))
+
+put-text-requires : tie.Need-put-text-requires
+put-text-requires c κs = search needs
 
 returns-3 : tie.Need-returns-3
 returns-3 c =
@@ -52,14 +64,15 @@ same-length c = search needs
 
 returns-4 : tie.Need-returns-4
 returns-4 c =
-    let x = c .before .before .before .before .before .before .before .before .before .before .before .before .before .args in
-    let at-if1 = c .before .before .before .before .before .before .before .before .before .before .before .if1 in
-    let at-check-alone = c .before .before .before .before .before .before .before .before .before .before .check-alone in
-    let at-enum-told = c .before .before .before .before .before .before .before .before .enum-told in
-    let at-put-line = c .before .before .before .before .before .before .put-line in
-    let at-if2 = c .before .before .before .before .if2 in
-    let at-put-line2 = c .before .before .put-line2 in
-    line-written (x .no .0) (x .kind) (x .left) (x .right) (x .out .now) (omega (arith, at-if1 .left)) (at-check-alone .result) (at-check-alone .ensures) (at-enum-told .given .1) (at-put-line .result) (at-put-line .ensures) (omega (arith, at-if2 .left)) (at-put-line2 .ensures)
+    let x = c .before .before .before .before .before .before .before .before .before .before .before .before .before .before .args in
+    let at-if1 = c .before .before .before .before .before .before .before .before .before .before .before .before .if1 in
+    let at-check-alone = c .before .before .before .before .before .before .before .before .before .before .before .check-alone in
+    let at-enum-told = c .before .before .before .before .before .before .before .before .before .enum-told in
+    let at-put-line = c .before .before .before .before .before .before .before .put-line in
+    let at-if2 = c .before .before .before .before .before .if2 in
+    let at-put-text = c .before .before .put-text in
+    let short = line-length (x .no .0) (x .kind) (x .left) (x .right) (omega arith) (omega arith) (omega arith) in
+    line-written (x .no .0) (x .kind) (x .left) (x .right) (x .out .now) (omega (arith, at-if1 .left)) (at-check-alone .result) (at-check-alone .ensures) (at-enum-told .given .1) (at-put-line .result) (at-put-line .ensures) (omega (arith, short)) (omega (arith, at-if2 .left)) (at-put-text .ensures)
 
 pub write-node-spec : {M : Type 1} → statement M
 write-node-spec =
@@ -72,7 +85,9 @@ write-node-spec =
     slice-aggregate-put-line
     put-line-requires
     returns-2
-    put-line-requires-2
+    array-share-prefix-line
+    slice-aggregate-put-text
+    put-text-requires
     returns-3
     same-length
     returns-4)

@@ -1,24 +1,21 @@
--- The loop keeps: the first i bytes are stored.
+-- The loop keeps: the first i bytes are put.
 use borrow.Author.Needs.{needs}
 use native.Mathlib.Omega.{arith}
 use mathlib.Core.Path.{_≡_, refl}
 use Prim.Native.Nat.{_-_}
 use lib.ListN.{length}
-use Rattle.lines.proofs.WriterLaw.{Stored, stored-more, stored-all}
+use Rattle.lines.proofs.WriterLaw.{Stored, wrote-none, stored-more, stored-all}
 use Rattle.lines.proofs.put.put_text.Statement.{statement}
 use Rattle.lines.proofs.put.put_text.Tie as tie
 
 abbrev Inv-loop : tie.InvT-loop
-Inv-loop out₀ at w i₀ out i = (length out ≡ length out₀) × Stored w out₀ out at i
+Inv-loop out₀ at w to₀ i₀ out to i = (length out ≡ length out₀) × Stored w out₀ out at i to
 
 abbrev μ-loop : tie.MeasureT-loop
-μ-loop out₀ at w i₀ out i = length w - i
+μ-loop out₀ at w to₀ i₀ out to i = length w - i
 
 loop-holds : tie.Need-loop-holds Inv-loop μ-loop
-loop-holds c = (refl, record { within = omega arith; is = refl })
-
-add-put-byte : tie.Need-add-put-byte Inv-loop μ-loop
-add-put-byte c = search needs
+loop-holds c = (refl, record { within = omega arith; first = wrote-none })
 
 shared-slice-read-put-byte : tie.Need-shared-slice-read-put-byte Inv-loop μ-loop
 shared-slice-read-put-byte c = search needs
@@ -39,11 +36,6 @@ loop-again c =
     let at-put-byte = c .before .before in
     (search needs, stored-more (at-loop-test .loop-test .taken) (at-loop .loop .inv .1) (at-put-byte .put-byte .ensures))
 
-add-result : tie.Need-add-result Inv-loop μ-loop
-add-result c =
-    let at-loop = c .before in
-    omega (arith, at-loop .loop .inv .1 .within)
-
 same-length : tie.Need-same-length Inv-loop μ-loop
 same-length c = search needs
 
@@ -59,12 +51,10 @@ put-text-spec =
     Inv-loop
     μ-loop
     loop-holds
-    add-put-byte
     shared-slice-read-put-byte
     put-byte-requires
     add-i
     loop-less
     loop-again
-    add-result
     same-length
     returns)

@@ -1,5 +1,5 @@
 -- The text of either answer.
-use Rattle.run.proofs.StepLaw.{later-refused, later-judged}
+use Rattle.run.proofs.StreamLaw.{later-refused, later-judged}
 use borrow.Author.Needs.{needs}
 use Rattle.run.proofs.stream.answer_later.Statement.{statement}
 use Rattle.run.proofs.stream.answer_later.Tie as tie
@@ -26,19 +26,18 @@ same-length : tie.Need-same-length
 same-length c = search needs
 
 returns : tie.Need-returns
-returns c =
-    let at-later-line = c .before .before .before .before .before .before .before .later-line in
+returns c = let at-later-line = c .before .before .before .before .before .before .before .later-line in
     let x = c .before .before .before .before .before .before .before .before .before .before .before .before .args in
+    let at-pre = c .before .before .before .before .before .before .before .before .before .before .before .before .pre in
     let at-put-refused = c .before .before .put-refused in
     let at-x = c .before .before .before .before .before .x in
-    later-refused (at-later-line .result) (at-later-line .ensures) (x .number) (x .gathered) (at-put-refused .result) (at-put-refused .ensures .1) (at-x .given .0 .0) (at-x .given .1) (at-put-refused .ensures .0)
+    later-refused (at-later-line .result) (at-later-line .ensures) (x .number) (x .gathered) (at-put-refused .result) (at-put-refused .ensures .1) (at-x .given .0 .0) (at-pre .0) (at-x .given .1) (at-put-refused .ensures .0)
 
 same-length-2 : tie.Need-same-length-2
 same-length-2 c = search needs
 
 returns-2 : tie.Need-returns-2
-returns-2 c =
-    let at-later-line = c .before .before .before .before .before .before .before .later-line in
+returns-2 c = let at-later-line = c .before .before .before .before .before .before .before .later-line in
     let x = c .before .before .before .before .before .before .before .before .before .before .before .before .args in
     let at-put-trace = c .before .before .put-trace in
     let at-v = c .before .before .before .before .before .v in

@@ -15,13 +15,11 @@ same-length : tie.Need-same-length
 same-length c = search needs
 
 returns : tie.Need-returns
-returns c =
-    let at-if1 = c .if1 in
+returns c = let at-if1 = c .if1 in
     (λ _. (refl, refl), λ h. absurd (omega (arith, h, at-if1 .taken)))
 
 returns-2 : tie.Need-returns-2
-returns-2 c =
-    let at-if1 = c .if1 in
+returns-2 c = let at-if1 = c .if1 in
     (λ h. absurd (omega (arith, h, at-if1 .left)), λ _. (refl, refl))
 
 pub keep-spec : {M : Type 1} → statement M

@@ -1,7 +1,7 @@
 -- The parts, one after the other.
 use native.Mathlib.Omega.{arith}
-use Rattle.lines.proofs.WriterLaw.{number-end}
-use Rattle.run.proofs.PrintedLaw.{refused-wrote}
+use Rattle.lines.proofs.WriterLaw.{wrote-end}
+use Rattle.run.proofs.PrintedLaw.{refused-wrote, refused-short}
 use borrow.Author.Needs.{needs}
 use Rattle.run.proofs.text.put_refused.Statement.{statement}
 use Rattle.run.proofs.text.put_refused.Tie as tie
@@ -19,38 +19,19 @@ slice-aggregate-put-text-2 : tie.Need-slice-aggregate-put-text-2
 slice-aggregate-put-text-2 c = search needs
 
 put-text-requires-2 : tie.Need-put-text-requires-2
-put-text-requires-2 c κs =
-    let at-pre = c .before .before .before .before .before .before .before .before .before .before .before .before .pre in
-    let at-put-text = c .before .before .before .before .before .before .before .before .put-text in
-    let at-fits = c .before .before .before .before .before .before .before .before .before .before .before .before .fits in
-    let at-put-number = c .before .before .before .before .put-number in
-    omega (arith, at-pre, at-put-text .ensures .ends, number-end (at-fits .line .fits) (at-put-number .ensures))
+put-text-requires-2 c κs = search needs
 
 cast-put-number : tie.Need-cast-put-number
 cast-put-number c = search needs
 
 put-number-requires-2 : tie.Need-put-number-requires-2
-put-number-requires-2 c κs =
-    let at-pre = c .before .before .before .before .before .before .before .before .before .before .before .before .before .before .before .before .before .pre in
-    let at-put-text = c .before .before .before .before .before .before .before .before .before .before .before .before .before .put-text in
-    let at-fits = c .before .before .before .before .before .before .before .before .before .before .before .before .before .before .before .before .before .fits in
-    let at-put-number = c .before .before .before .before .before .before .before .before .before .put-number in
-    let at-put-text2 = c .before .before .before .before .put-text2 in
-    omega (arith, at-pre, at-put-text .ensures .ends, number-end (at-fits .line .fits) (at-put-number .ensures), at-put-text2 .ensures .ends)
+put-number-requires-2 c κs = search needs
 
 slice-aggregate-put-text-3 : tie.Need-slice-aggregate-put-text-3
 slice-aggregate-put-text-3 c = search needs
 
 put-text-requires-3 : tie.Need-put-text-requires-3
-put-text-requires-3 c κs =
-    let at-pre = c .before .before .before .before .before .before .before .before .before .before .before .before .before .before .before .before .before .before .before .before .before .before .pre in
-    let at-put-text = c .before .before .before .before .before .before .before .before .before .before .before .before .before .before .before .before .before .before .put-text in
-    let at-fits = c .before .before .before .before .before .before .before .before .before .before .before .before .before .before .before .before .before .before .before .before .before .before .fits in
-    let at-put-number = c .before .before .before .before .before .before .before .before .before .before .before .before .before .before .put-number in
-    let at-put-text2 = c .before .before .before .before .before .before .before .before .before .put-text2 in
-    let at-struct-known = c .before .before .before .before .before .struct-known in
-    let at-put-number2 = c .before .before .before .before .put-number2 in
-    omega (arith, at-pre, at-put-text .ensures .ends, number-end (at-fits .line .fits) (at-put-number .ensures), at-put-text2 .ensures .ends, number-end (omega (arith, at-struct-known .given)) (at-put-number2 .ensures))
+put-text-requires-3 c κs = search needs
 
 same-length : tie.Need-same-length
 same-length c = search needs
@@ -63,12 +44,10 @@ returns c =
     let at-put-text2 = c .before .before .before .before .before .before .before .before .before .before .before .before .put-text2 in
     let at-put-number2 = c .before .before .before .before .before .before .before .put-number2 in
     let at-put-text3 = c .before .before .put-text3 in
-    let at-pre = c .before .before .before .before .before .before .before .before .before .before .before .before .before .before .before .before .before .before .before .before .before .before .before .before .before .pre in
     let at-fits = c .before .before .before .before .before .before .before .before .before .before .before .before .before .before .before .before .before .before .before .before .before .before .before .before .before .fits in
-    let at-struct-known = c .before .before .before .before .before .before .before .before .struct-known in (
-      refused-wrote (x .line) (x .x) (at-put-text .ensures) (at-put-number .ensures) (at-put-text2 .ensures) (at-put-number2 .ensures) (at-put-text3 .ensures),
-      omega (arith, at-pre, at-put-text .ensures .ends, number-end (at-fits .line .fits) (at-put-number .ensures), at-put-text2 .ensures .ends, number-end (omega (arith, at-struct-known .given)) (at-put-number2 .ensures), at-put-text3 .ensures .ends),
-    )
+    let at-struct-known = c .before .before .before .before .before .before .before .before .struct-known in
+    let wrote = refused-wrote (x .line) (x .x) (at-put-text .ensures) (at-put-number .ensures) (at-put-text2 .ensures) (at-put-number2 .ensures) (at-put-text3 .ensures) in
+    (wrote, omega (arith, wrote-end wrote, refused-short (x .line) (x .x) (at-fits .line .fits) (omega (arith, at-struct-known .given))))
 
 pub put-refused-spec : {M : Type 1} → statement M
 put-refused-spec =

@@ -3,7 +3,9 @@ use mathlib.Core.Path.{sym, subst}
 use native.Mathlib.Omega.{arith}
 use Rattle.verdict.specs.declared.Verdict.{Verdict}
 use Rattle.lines.specs.Inner.Writer.{Wrote}
+use Rattle.lines.proofs.WriterLaw.{wrote-end}
 use Rattle.run.specs.Printed.{verdictText}
+use Rattle.run.proofs.PrintedLaw.{verdict-short}
 use borrow.Author.Needs.{needs}
 use Rattle.run.proofs.text.put_verdict.Statement.{statement}
 use Rattle.run.proofs.text.put_verdict.Tie as tie
@@ -44,7 +46,8 @@ returns c =
     let x = c .before .before .before .before .before .before .before .before .args in
     let at-put-text = c .before .before .put-text in
     let at-enum-told = c .before .before .before .before .before .enum-told in
-    (subst (λ (v : Verdict). Wrote (verdictText v) (x .out .now) (at-put-text .last .0) (x .at) (at-put-text .result)) (sym (at-enum-told .given .1)) (at-put-text .ensures), omega (arith, at-put-text .ensures .ends))
+    let wrote = subst (λ (v : Verdict). Wrote (verdictText v) (x .out .now) (at-put-text .last .0) (x .at) (at-put-text .result)) (sym (at-enum-told .given .1)) (at-put-text .ensures) in
+    (wrote, omega (arith, wrote-end wrote, verdict-short (x .v)))
 
 same-length-2 : tie.Need-same-length-2
 same-length-2 c = search needs
@@ -55,7 +58,8 @@ returns-2 c =
     let x = c .before .before .before .before .before .before .before .before .args in
     let at-put-text2 = c .before .before .put-text2 in
     let at-enum-told2 = c .before .before .before .before .before .enum-told2 in
-    (subst (λ (v : Verdict). Wrote (verdictText v) (x .out .now) (at-put-text2 .last .0) (x .at) (at-put-text2 .result)) (sym (at-enum-told2 .given .1)) (at-put-text2 .ensures), omega (arith, at-put-text2 .ensures .ends))
+    let wrote = subst (λ (v : Verdict). Wrote (verdictText v) (x .out .now) (at-put-text2 .last .0) (x .at) (at-put-text2 .result)) (sym (at-enum-told2 .given .1)) (at-put-text2 .ensures) in
+    (wrote, omega (arith, wrote-end wrote, verdict-short (x .v)))
 
 same-length-3 : tie.Need-same-length-3
 same-length-3 c = search needs
@@ -66,7 +70,8 @@ returns-3 c =
     let x = c .before .before .before .before .before .before .before .before .args in
     let at-put-text3 = c .before .before .put-text3 in
     let at-enum-told3 = c .before .before .before .before .before .enum-told3 in
-    (subst (λ (v : Verdict). Wrote (verdictText v) (x .out .now) (at-put-text3 .last .0) (x .at) (at-put-text3 .result)) (sym (at-enum-told3 .given .1)) (at-put-text3 .ensures), omega (arith, at-put-text3 .ensures .ends))
+    let wrote = subst (λ (v : Verdict). Wrote (verdictText v) (x .out .now) (at-put-text3 .last .0) (x .at) (at-put-text3 .result)) (sym (at-enum-told3 .given .1)) (at-put-text3 .ensures) in
+    (wrote, omega (arith, wrote-end wrote, verdict-short (x .v)))
 
 pub put-verdict-spec : {M : Type 1} → statement M
 put-verdict-spec =

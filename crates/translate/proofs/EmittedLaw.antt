@@ -24,9 +24,9 @@ use Rattle.psl.proofs.CheckLaw.{psl-table}
 use Rattle.psl.proofs.PartLaw.{part-root, part-node}
 use Rattle.psl.proofs.AcceptedLaw.{some-node}
 use Rattle.ltl.specs.Check.{ltlRules, ltlRefusal}
 use Rattle.translate.specs.Emitted.{trueN, varN, notN, andN, orN, nextN, untilN, walkB, gate, literal, walk, emittedNodes, emitted, emittedSize}
-use Rattle.translate.proofs.WalkLaw.{length-walkB, length-walk}
+use Rattle.translate.proofs.WalkLaw.{length-gate, length-walkB, length-walk}
 use Rattle.translate.proofs.ArmLaw.{weightB-pos, weight-pos}
 
 -- ── The signals of a formula ──
 
@@ -151,12 +151,6 @@ fine-gate x a r ns hx ha hr f =
     let fm = fine-more ns (notN r) f (omega arith, named hr, blank) in
     let fp = fine-more ms (andN x (last ms)) fm (omega arith, named (omega arith), named (omega arith)) in
     fine-more ps (orN a (last ps)) fp (omega arith, named (omega arith), named (omega arith))
-
-length-gate : (x a r : ℕ) (ns : List Node) → length (gate x a r ns) ≡ length ns + 3
-length-gate x a r ns =
-    let ms = ns ▸ notN r in
-    let ps = ms ▸ andN x (last ms) in
-    omega (arith, length-more ns (notN r), length-more ms (andN x (last ms)), length-more ps (orN a (last ps)))
 
 fine-literal : (b : BoolExpr) → LowB b → (a r : ℕ) (ns : List Node) → a < length ns → r < length ns → Fine ns → Fine (literal b a r ns)
 fine-literal b h a r ns ha hr f =

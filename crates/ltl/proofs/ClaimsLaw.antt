@@ -1,0 +1,18 @@
+-- What is claimed of LTL tables and of the LTL meaning holds.
+use mathlib.Core.Path.{_≡_, sym, _∙_}
+use native.Mathlib.Omega.{arith}
+use Rattle.table.proofs.CheckLaw.{table-sized}
+use Rattle.ltl.specs.Check.{ltlRules}
+use Rattle.ltl.specs.Claims.{Claims}
+use Rattle.ltl.proofs.KnownLaw.{known}
+use Rattle.ltl.proofs.AcceptedLaw.{some-node, most-nodes, is-var, both-below}
+
+pub claims : Claims
+claims =
+    record {
+      one-answer = λ t r r′ e e′. e ∙ sym e′;
+      sized = λ t e. (omega (arith, table-sized ltlRules t e .threes), omega (arith, some-node t e), most-nodes t e);
+      signal = is-var;
+      before = both-below;
+      known = known;
+    }

@@ -1,0 +1,111 @@
+-- The statements of `Claims`.
+use mathlib.Core.Path.{_≡_, refl, ap, sym, subst, _∙_}
+use mathlib.Core.Logic.{_⊎_, inl, inr, _↔_}
+use mathlib.Core.List.{List, [], _∷_, _++_, append-cancel-left}
+use Prim.Native.Nat.{ℕ, suc, _<_}
+use native.Mathlib.Omega.{arith}
+use native.Mathlib.Decide.{decLt}
+use Rattle.trace.specs.Moments.{size}
+use Rattle.psl.specs.Formula.{Formula}
+use Rattle.psl.specs.Meaning.{HoldsOn}
+use Rattle.ltl.specs.Meaning.{LtlHoldsOn}
+use Rattle.ltl.specs.Table.{treeOf}
+use Rattle.translate.specs.Emitted.{emitted}
+use Rattle.translate.proofs.TranslatesLaw.{translates}
+use Rattle.verdict.specs.declared.Verdict.{Verdict}
+use Rattle.verdict.specs.declared.Verdict.the-variants as Verdict
+use Rattle.lines.specs.Text.{text}
+use Rattle.lines.specs.Spelling.{formulaLine, Trace, lineOfTrace}
+use Rattle.lines.specs.FormulaAnswer.{formulaLimits}
+use Rattle.lines.specs.TraceAnswer.{traceLimits}
+use Rattle.lines.proofs.ReadingLaw.{taken-alone, not-both, refused-alone}
+use Rattle.lines.proofs.FormulaLaw.{formula-injective}
+use Rattle.lines.proofs.TraceLaw.{trace-alone}
+use Rattle.run.specs.Claims.{Claims}
+use Rattle.run.specs.Input.{inputLines}
+use Rattle.run.specs.Printed.{refusedText, verdictText, tableText}
+use Rattle.run.specs.Whole.{Tells, Judged, LaterAnswer, laterText, PrintsTraces, Prints, Runs}
+use Rattle.run.specs.declared.Later.{Later}
+use Rattle.run.specs.declared.Later.the-variants as Later
+
+-- ── Verdicts ──
+
+-- Verdicts on claims that hold together are equal.
+tells-both : {A B : Type 0} → (A ↔ B) → (v w : Verdict) → Tells A v → Tells B w → v ≡ w
+tells-both e Verdict.Yes Verdict.Yes a b = refl
+tells-both e Verdict.Yes Verdict.No a b = absurd (b (e .0 a))
+tells-both e Verdict.No Verdict.Yes a b = absurd (a (e .1 b))
+tells-both e Verdict.No Verdict.No a b = refl
+tells-both e (Verdict.Refused x) w a b = absurd a
+tells-both e Verdict.Yes (Verdict.Refused x) a b = absurd b
+tells-both e Verdict.No (Verdict.Refused x) a b = absurd b
+
+module _ (f : Formula) (t : Trace) where
+  abbrev Psl : Type 0
+  Psl = HoldsOn f (t .lead) (t .loop)
+
+  abbrev Ltl : Type 0
+  Ltl = LtlHoldsOn (treeOf (emitted f)) (t .lead) (t .loop)
+
+  agree : (v w : Verdict) → Judged f t v w → 0 < size (t .lead) (t .loop) → v ≡ w
+  agree v w j h = tells-both (translates f (t .lead) (t .loop) h) v w (j .psl) (j .ltl h)
+
+  judged-alone : (v w v′ w′ : Verdict) → Judged f t v w → Judged f t v′ w′ → (v ≡ v′) × (w ≡ w′)
+  judged-alone v w v′ w′ j k = (tells-both (λ a. a, λ a. a) v v′ (j .psl) (k .psl), second)
+    where
+      second : w ≡ w′
+      second =
+          elim (decLt 0 (size (t .lead) (t .loop))) [
+            | yes h ↦ tells-both (λ a. a, λ a. a) w w′ (j .ltl h) (k .ltl h)
+            | no h ↦ j .empty (omega arith) ∙ sym (k .empty (omega arith))
+          ]
+
+  -- What is printed as none is refused.
+  decided : (A : Type 0) (v : Verdict) → Tells A v → verdictText v ≡ text "none" → ⊥
+  unfolding verdictText
+  decided A Verdict.Yes a e = let z : _≡_ {A = ℕ} 0 1 = cc in omega arith
+  decided A Verdict.No a e = let z : _≡_ {A = ℕ} 0 1 = cc in omega arith
+  decided A (Verdict.Refused x) a e = a
+
+  none-ltl : (v w : Verdict) → Judged f t v w → (verdictText w ≡ text "none") ↔ (size (t .lead) (t .loop) ≡ 0)
+  unfolding verdictText
+  none-ltl v w j =
+      (λ e. elim (decLt 0 (size (t .lead) (t .loop))) [ yes h ↦ absurd (decided Ltl w (j .ltl h) e) | no h ↦ omega arith ], λ h. ap verdictText (j .empty h))
+
+-- ── Lines ──
+
+later-alone : (f : Formula) (line : List ℕ) (r q : Later) → LaterAnswer f line r → LaterAnswer f line q → r ≡ q
+later-alone f line (Later.Verdicts v w) (Later.Verdicts v′ w′) (t, a, j) (u, b, k) =
+    let d = taken-alone lineOfTrace trace-alone traceLimits b a in
+    let (p, q) = judged-alone f t v w v′ w′ j (subst (λ (x : Trace). Judged f x v′ w′) d k) in
+    cc
+later-alone f line (Later.Verdicts v w) (Later.Refused x) (t, a, j) b = absurd (not-both lineOfTrace trace-alone traceLimits a b)
+later-alone f line (Later.Refused x) (Later.Verdicts v w) b (t, a, j) = absurd (not-both lineOfTrace trace-alone traceLimits a b)
+later-alone f line (Later.Refused x) (Later.Refused y) a b = ap Later.Refused (refused-alone lineOfTrace trace-alone traceLimits a b)
+
+traces-alone : (f : Formula) (i : ℕ) (ls : List (List ℕ)) (out out′ : List ℕ) → PrintsTraces f i ls out → PrintsTraces f i ls out′ → out ≡ out′
+traces-alone f i [] out out′ p q = p ∙ sym q
+traces-alone f i (line ∷ ls) out out′ (r, rest, a, e, p) (q, rest′, b, e′, p′) =
+    let same = later-alone f line r q a b in
+    let tail = traces-alone f (suc i) ls rest rest′ p p′ in
+    e ∙ ap (λ (x : List ℕ). laterText i r ++ x) tail ∙ ap (λ (x : Later). laterText i x ++ rest′) same ∙ sym e′
+
+prints-alone : (ls : List (List ℕ)) (out out′ : List ℕ) → Prints ls out → Prints ls out′ → out ≡ out′
+prints-alone [] out out′ p q = absurd p
+prints-alone (line ∷ ls) out out′ (inl (f, rest, a, e, p)) (inl (g, rest′, b, e′, p′)) =
+    let d = taken-alone formulaLine formula-injective formulaLimits b a in
+    let tail = traces-alone f 1 ls rest rest′ p (subst (λ (x : Formula). PrintsTraces x 1 ls rest′) d p′) in
+    e ∙ ap (λ (x : List ℕ). tableText (emitted f) ++ x) tail ∙ ap (λ (x : Formula). tableText (emitted x) ++ rest′) (sym d) ∙ sym e′
+prints-alone (line ∷ ls) out out′ (inl (f, rest, a, e, p)) (inr (x, b, e′)) = absurd (not-both formulaLine formula-injective formulaLimits a b)
+prints-alone (line ∷ ls) out out′ (inr (x, b, e′)) (inl (f, rest, a, e, p)) = absurd (not-both formulaLine formula-injective formulaLimits a b)
+prints-alone (line ∷ ls) out out′ (inr (x, a, e)) (inr (y, b, e′)) =
+    e ∙ ap (refusedText 1) (refused-alone formulaLine formula-injective formulaLimits a b) ∙ sym e′
+
+pub claims : Claims
+claims =
+    record {
+      one-output = λ input out out′ p q. prints-alone (inputLines input) out out′ p q;
+      agree = agree;
+      none-ltl = none-ltl;
+      none-psl = λ f t v w j. decided f t (HoldsOn f (t .lead) (t .loop)) v (j .psl);
+    }

@@ -1,0 +1,394 @@
+-- What each way out of the functions of the stream gives.
+use mathlib.Core.Path.{_≡_, refl, ap, sym, subst, _∙_}
+use mathlib.Core.Logic.{_⊎_, inl, inr}
+use mathlib.Core.Bool.{Bool, true, false}
+use mathlib.Core.List.{List, [], _∷_, _++_, append-assoc, append-nil}
+use Prim.Native.Nat.{ℕ, suc, _+_, _*_, _-_, _<_, _≤_}
+use native.Mathlib.Omega.{arith}
+use native.Mathlib.Numerals.{add-one}
+use borrow.Author.Tests.{ltb-true, ltb-false}
+use lib.Dec.{ltb}
+use lib.ListN.{length, take, drop, getD, length-set, take-append-drop}
+use lib.Seq.{take-suc, take-all}
+use Rattle.trace.specs.declared.Refusal.{Refusal}
+use Rattle.table.specs.Node.{_▸_}
+use Rattle.psl.specs.Formula.{Formula}
+use Rattle.verdict.specs.declared.Verdict.{Verdict}
+use Rattle.lines.specs.Inner.Writer.{Wrote}
+use Rattle.run.specs.Printed.{refusedText, traceText, tableText}
+use Rattle.run.specs.Whole.{LaterAnswer, Runs}
+use Rattle.run.specs.Inner as Inner
+use Rattle.run.specs.Inner.{TablesOf, FirstAnswer, Going, At, longest, shortest, mostBlock, Within, Gathered, Remembers, FirstDone, LaterDone, LineDone, Keeps, Fed, Finished, Ends, Advanced, idle, stopped, Turned}
+use Rattle.run.specs.declared.First.{First}
+use Rattle.run.specs.declared.First.the-variants as First
+use Rattle.run.specs.declared.Later.{Later}
+use Rattle.run.specs.declared.Later.the-variants as Later
+use Rattle.run.specs.declared.stream.State.{State}
+use Rattle.run.proofs.ProgressLaw.{going-same, going-byte, at-first, going-later, end-empty, end-open}
+
+-- ── Bounds ──
+
+-- The same state, with other bytes gathered.
+pub within-as : {line psl ltl out : List ℕ} (s r : State) → Within s line psl ltl out → r .number ≡ s .number → r .filled ≡ s .filled → r .nodes ≡ s .nodes
+    → r .size ≡ s .size → (r .more ≡ true → (s .more ≡ true) × (r .failed ≡ false)) → Within r line psl ltl out
+within-as s r w number filled nodes size more =
+    record {
+      lineRoom = w .lineRoom;
+      pslRoom = w .pslRoom;
+      ltlRoom = w .ltlRoom;
+      outRoom = w .outRoom;
+      filled = omega (arith, w .filled);
+      nodes = omega (arith, w .nodes);
+      size = omega (arith, w .size);
+      numbered = omega (arith, w .numbered);
+      working = λ m. more m .1;
+      stored = λ h m. rw (nodes, size) (w .stored (omega (arith, number)) (more m .0));
+    }
+
+-- ── Answers ──
+
+abbrev pub begun : ℕ → ℕ → ℕ → Bool → State
+begun n z g m = record { number = 2; filled = 0; nodes = n; size = z; gathered = g; more = m; failed = false }
+
+module _ (line out out′ psl ltl : List ℕ) (a : First) (answers : FirstAnswer line a psl ltl) (g : ℕ) where
+  pub first-refused : (x : Refusal) → a ≡ First.Refused x → Wrote (refusedText 1 x) out out′ 0 g → g ≤ 60 → FirstDone line out (begun 0 0 g false) psl ltl out′
+  first-refused x e w h =
+      record {
+        answer = First.Refused x;
+        answers = subst (λ (y : First). FirstAnswer line y psl ltl) e answers;
+        writes = w;
+        short = omega arith;
+        remembers = (refl, refl, refl);
+        number = refl;
+        filled = refl;
+        works = refl;
+      }
+
+  pub first-tables : (n z : ℕ) → a ≡ First.Tables n z → Wrote (tableText (take (3 * z) ltl)) out out′ 0 g → g ≤ longest → FirstDone line out (begun n z g true) psl ltl out′
+  first-tables n z e w h =
+      record {
+        answer = First.Tables n z;
+        answers = subst (λ (y : First). FirstAnswer line y psl ltl) e answers;
+        writes = w;
+        short = h;
+        remembers = (refl, refl, refl);
+        number = refl;
+        filled = refl;
+        works = refl;
+      }
+
+pub first-few : (line psl ltl : List ℕ) (a : First) (n z : ℕ) → FirstAnswer line a psl ltl → a ≡ First.Tables n z → (n ≤ 1024) × (z ≤ 4096)
+first-few line psl ltl a n z h e = let (_, _, _, p, q) = subst (λ (y : First). FirstAnswer line y psl ltl) e h in (p, q)
+
+module _ {line psl ltl out out′ : List ℕ} (a : Later) (answers : (f : Formula) → TablesOf f psl ltl → LaterAnswer f line a) (number at next : ℕ) (h : next ≤ at + 60) where
+  pub later-refused : (x : Refusal) → 0 < number → a ≡ Later.Refused x → Wrote (refusedText number x) out out′ at next → LaterDone line psl ltl out number at out′ next
+  later-refused x pos e w =
+      let same : number ≡ suc (number - 1) = omega arith in
+      record {
+        answer = Later.Refused x;
+        answers = λ f t. subst (LaterAnswer f line) e (answers f t);
+        writes = subst (λ (k : ℕ). Wrote (refusedText k x) out out′ at next) same w;
+        short = h;
+      }
+
+  pub later-judged : (v w : Verdict) → a ≡ Later.Verdicts v w → Wrote (traceText (number - 1) v w) out out′ at next → LaterDone line psl ltl out number at out′ next
+  later-judged v w e t = record { answer = Later.Verdicts v w; answers = λ f t. subst (LaterAnswer f line) e (answers f t); writes = t; short = h }
+
+-- ── A line's end ──
+
+first-stored : (line psl ltl : List ℕ) (a : First) → FirstAnswer line a psl ltl → (r : State) → Remembers a r
+    → (r .nodes ≤ 1024) × (r .size ≤ 4096) × (r .more ≡ true → (f : Formula) × TablesOf f (take (3 * r .nodes) psl) (take (3 * r .size) ltl))
+first-stored line psl ltl (First.Refused x) a r (m, n, z) = (omega arith, omega arith, λ h. let z : _≡_ {A = ℕ} 0 1 = cc in absurd (omega arith))
+first-stored line psl ltl (First.Tables i j) (f, _, t, p, q) r (m, n, z) = (omega arith, omega arith, λ _. (f, rw (n, z) t))
+
+-- The state after a later line.
+abbrev pub onward : State → ℕ → State
+onward s g = record { number = s .number + 1; filled = 0; nodes = s .nodes; size = s .size; gathered = g; more = true; failed = false }
+
+module _ {line psl ltl out : List ℕ} (s : State) (w : Within s line psl ltl out) (few : s .gathered ≤ 1090040) where
+  pub line-first : {psl′ ltl′ out′ : List ℕ} (r : State) → s .number ≤ 1 → s .gathered ≡ 0 → length psl′ ≡ length psl → length ltl′ ≡ length ltl → length out′ ≡ length out
+      → FirstDone (take (s .filled) line) out r psl′ ltl′ out′ → LineDone line psl ltl out s r psl′ ltl′ out′
+  line-first {psl′} {ltl′} r h none p q o d =
+      let (n, z, stored) = first-stored (take (s .filled) line) psl′ ltl′ (d .answer) (d .answers) r (d .remembers) in
+      record {
+        within = record {
+          lineRoom = w .lineRoom;
+          pslRoom = p ∙ w .pslRoom;
+          ltlRoom = q ∙ w .ltlRoom;
+          outRoom = o ∙ w .outRoom;
+          filled = omega (arith, d .filled);
+          nodes = n;
+          size = z;
+          numbered = omega (arith, d .number);
+          working = λ _. d .works;
+          stored = λ _. stored;
+        };
+        number = omega (arith, d .number, w .numbered);
+        short = λ k g. omega (arith, d .short);
+        tells = λ read done a. at-first read done line psl ltl out s r a h none d (omega (arith, d .short, w .outRoom));
+      }
+
+  pub line-later : {out′ : List ℕ} (g : ℕ) → 1 < s .number → s .more ≡ true → length out′ ≡ length out
+      → LaterDone (take (s .filled) line) (take (3 * s .nodes) psl) (take (3 * s .size) ltl) out (s .number) (s .gathered) out′ g
+      → LineDone line psl ltl out s (onward s g) psl ltl out′
+  line-later g h m o d =
+      record {
+        within = record {
+          lineRoom = w .lineRoom;
+          pslRoom = w .pslRoom;
+          ltlRoom = w .ltlRoom;
+          outRoom = o ∙ w .outRoom;
+          filled = omega arith;
+          nodes = w .nodes;
+          size = w .size;
+          numbered = omega arith;
+          working = λ _. refl;
+          stored = λ _ _. w .stored h m;
+        };
+        number = refl;
+        short = λ k gathered. omega (arith, d .short, gathered .few);
+        tells = λ read done a. record {
+          going = λ _. going-later read done line psl ltl out s (onward s g) a h d (omega (arith, d .short, w .outRoom)) refl refl refl refl;
+          over = λ e. let z : _≡_ {A = ℕ} 0 1 = cc in absurd (omega arith);
+        };
+      }
+
+-- ── The loop over a block ──
+
+-- The state with another count of kept bytes.
+abbrev pub keeping : State → ℕ → State
+keeping s k = record { number = s .number; filled = k; nodes = s .nodes; size = s .size; gathered = s .gathered; more = s .more; failed = s .failed }
+
+-- The state r after the first i bytes of a block, from s on.
+pub record Feeding (block line₀ psl₀ ltl₀ : List ℕ) (s : State) (line psl ltl out : List ℕ) (r : State) (i : ℕ) : Type 0 where
+  pub within : Within r line psl ltl out
+  pub more : r .more ≡ true
+  pub upto : i ≤ length block
+  pub gathered : Gathered (longest + shortest * i) r
+  pub number : r .number ≤ s .number + i
+  pub tells : (read done : List ℕ) → Going read done s line₀ psl₀ ltl₀ → Going (read ++ take i block) (done ++ take (r .gathered) out) r line psl ltl
+
+pub feeding-start : {block line psl ltl out : List ℕ} {s : State} → Within s line psl ltl out → s .more ≡ true → Gathered 0 s → Feeding block line psl ltl s line psl ltl out s 0
+feeding-start {line = line} {psl} {ltl} {out} {s} w m g =
+    record {
+      within = w;
+      more = m;
+      upto = omega arith;
+      gathered = record { few = omega (arith, g .few); first = g .first };
+      number = omega arith;
+      tells = λ read done a.
+          let zero : s .gathered ≡ 0 = omega (arith, g .few) in
+          subst (λ (k : ℕ). Going (read ++ []) (done ++ take k out) s line psl ltl) (sym zero)
+          (subst (λ (x : List ℕ). Going (read ++ []) x s line psl ltl) (sym (append-nil done))
+          (subst (λ (x : List ℕ). Going x done s line psl ltl) (sym (append-nil read)) a));
+    }
+
+-- The bytes taken, with one more.
+one-more : (read block : List ℕ) (i b : ℕ) → i < length block → b ≡ getD block i 0 → (read ++ take i block) ▸ b ≡ read ++ take (i + 1) block
+one-more read block i b h e =
+    append-assoc read (take i block) (b ∷ [])
+    ∙ ap (λ (x : List ℕ). read ++ x) (ap (λ (c : ℕ). take i block ▸ c) e ∙ sym (take-suc block i 0 h) ∙ ap (λ (k : ℕ). take k block) (sym (add-one i)))
+
+kept-length : (line line′ : List ℕ) (at b next : ℕ) → Keeps at b line line′ next → at ≤ length line → (length line′ ≡ length line) × (next ≤ length line)
+kept-length line line′ at b next (more, full) h = go (ltb at (length line)) refl
+  where
+    go : (t : Bool) → ltb at (length line) ≡ t → (length line′ ≡ length line) × (next ≤ length line)
+    go true t = let (p, q) = more (ltb-true at (length line) t) in (ap length p ∙ length-set line at b, omega (arith, q, ltb-true at (length line) t))
+    go false t = let (p, q) = full (ltb-false at (length line) t) in (ap length p, omega (arith, q))
+
+module _ {block line₀ psl₀ ltl₀ line psl ltl out : List ℕ} {s : State} (r : State) (i : ℕ) (f : Feeding block line₀ psl₀ ltl₀ s line psl ltl out r i)
+    (h : i < length block) (b : ℕ) (e : b ≡ getD block i 0) where
+  pub feeding-byte : {line′ : List ℕ} (k : ℕ) → (b ≡ 10 → ⊥) → Keeps (r .filled) b line line′ k → Feeding block line₀ psl₀ ltl₀ s line′ psl ltl out (keeping r k) (i + 1)
+  feeding-byte {line′} k ne keeps =
+      let w = f .within in
+      let (p, q) = kept-length line line′ (r .filled) b k keeps (omega (arith, w .filled, w .lineRoom)) in
+      record {
+        within = record {
+          lineRoom = p ∙ w .lineRoom;
+          pslRoom = w .pslRoom;
+          ltlRoom = w .ltlRoom;
+          outRoom = w .outRoom;
+          filled = omega (arith, q, w .lineRoom);
+          nodes = w .nodes;
+          size = w .size;
+          numbered = w .numbered;
+          working = w .working;
+          stored = w .stored;
+        };
+        more = f .more;
+        upto = omega arith;
+        gathered = record { few = omega (arith, f .gathered .few); first = f .gathered .first };
+        number = omega (arith, f .number);
+        tells = λ read done a.
+            subst (λ (x : List ℕ). Going x (done ++ take (r .gathered) out) (keeping r k) line′ psl ltl) (one-more read block i b h e)
+            (going-byte r (keeping r k) (f .tells read done a) refl refl refl b line′ ne (w .lineRoom) (w .filled) keeps);
+      }
+
+  module _ (ten : b ≡ 10) {psl′ ltl′ out′ : List ℕ} (r′ : State) (d : LineDone line psl ltl out r r′ psl′ ltl′ out′) where
+    at-line : (read done : List ℕ) → Going read done s line₀ psl₀ ltl₀ → At (read ++ take (i + 1) block) (done ++ take (r′ .gathered) out′) r′ line psl′ ltl′
+    at-line read done a =
+        subst (λ (x : List ℕ). At x (done ++ take (r′ .gathered) out′) r′ line psl′ ltl′) (one-more read block i 10 h (sym ten ∙ e))
+        (d .tells (read ++ take i block) done (f .tells read done a))
+
+    short : r′ .gathered ≤ longest + shortest * (i + 1)
+    short = omega (arith, d .short (shortest * i) (f .gathered))
+
+    pub feeding-line : r′ .more ≡ true → Feeding block line₀ psl₀ ltl₀ s line psl′ ltl′ out′ r′ (i + 1)
+    feeding-line m =
+        record {
+          within = d .within;
+          more = m;
+          upto = omega arith;
+          gathered = record { few = short; first = λ k. absurd (omega (arith, d .number, f .within .numbered)) };
+          number = omega (arith, d .number, f .number);
+          tells = λ read done a. at-line read done a .going m;
+        }
+
+    -- Line 1 was refused: what follows in the block does not matter.
+    pub feeding-over : length block ≤ mostBlock → r′ .more ≡ false → Fed block line₀ psl₀ ltl₀ s r′ line psl′ ltl′ out′
+    feeding-over few m =
+        record {
+          within = d .within;
+          room = omega (arith, short, d .within .outRoom);
+          tells = λ read done a. record {
+            going = λ g. let z : _≡_ {A = ℕ} 0 1 = cc in absurd (omega arith);
+            over = λ _ rest.
+                let all : (read ++ take (i + 1) block) ++ (drop (i + 1) block ++ rest) ≡ (read ++ block) ++ rest =
+                sym (append-assoc (read ++ take (i + 1) block) (drop (i + 1) block) rest)
+                ∙ ap (λ (x : List ℕ). x ++ rest) (append-assoc read (take (i + 1) block) (drop (i + 1) block) ∙ ap (λ (x : List ℕ). read ++ x) (take-append-drop (i + 1) block)) in
+                subst (λ (x : List ℕ). Runs x (done ++ take (r′ .gathered) out′)) all (at-line read done a .over m (drop (i + 1) block ++ rest));
+          };
+        }
+
+pub feeding-end : {block line₀ psl₀ ltl₀ line psl ltl out : List ℕ} {s : State} (r : State) (i : ℕ) → Feeding block line₀ psl₀ ltl₀ s line psl ltl out r i
+    → length block ≤ i → length block ≤ mostBlock → Fed block line₀ psl₀ ltl₀ s r line psl ltl out
+feeding-end {block} {line = line} {psl} {ltl} {out} r i f h few =
+    record {
+      within = f .within;
+      room = omega (arith, f .gathered .few, f .upto, f .within .outRoom);
+      tells = λ read done a. record {
+        going = λ _. subst (λ (x : List ℕ). Going (read ++ x) (done ++ take (r .gathered) out) r line psl ltl) (take-all i block h) (f .tells read done a);
+        over = λ e. let m = f .more in let z : _≡_ {A = ℕ} 0 1 = cc in absurd (omega arith);
+      };
+    }
+
+-- ── The input's end ──
+
+module _ {line psl ltl out : List ℕ} (s : State) (w : Within s line psl ltl out) (g : Gathered 0 s) where
+  zero : s .gathered ≡ 0
+  zero = omega (arith, g .few)
+
+  -- Nothing is gathered before.
+  none-gathered : (done : List ℕ) → done ≡ done ++ take (s .gathered) out
+  none-gathered done = sym (append-nil done) ∙ ap (λ (k : ℕ). done ++ take k out) (sym zero)
+
+  pub nothing-open : s .filled ≡ 0 → 1 < s .number → Finished line psl ltl s s psl ltl out
+  nothing-open f h =
+      record { within = w; room = omega (arith, zero); tells = λ read done a. subst (Runs read) (none-gathered done) (end-empty s a f h) }
+
+  pub line-open : {psl′ ltl′ out′ : List ℕ} (r : State) → (s .filled ≡ 0 → s .number ≤ 1) → LineDone line psl ltl out s r psl′ ltl′ out′ → Finished line psl ltl s r psl′ ltl′ out′
+  line-open r h d =
+      record {
+        within = d .within;
+        room = omega (arith, d .short 0 (record { few = omega (arith, g .few); first = g .first }), d .within .outRoom);
+        tells = λ read done a.
+            end-open s a r (omega (arith, w .filled, w .lineRoom)) h
+            (d .tells read done (subst (λ (x : List ℕ). Going read x s line psl ltl) (none-gathered done) a));
+      }
+
+-- ── A block ──
+
+-- The state at the input's end.
+abbrev pub ended : State → State
+ended s = record { number = s .number; filled = s .filled; nodes = s .nodes; size = s .size; gathered = s .gathered; more = false; failed = s .failed }
+
+never : {b : Bool} → b ≡ true → b ≡ false → ⊥
+never {b} p q = let z : _≡_ {A = ℕ} 0 1 = cc in omega arith
+
+nil : (xs : List ℕ) → length xs ≡ 0 → xs ≡ []
+nil [] e = refl
+nil (x ∷ xs) e = absurd (omega arith)
+
+-- Gathering begins anew: the relation does not speak of what is gathered.
+module _ {line psl ltl : List ℕ} (s : State) where
+  anew : {read done : List ℕ} → Going read done s line psl ltl → Going read done (idle s) line psl ltl
+  anew a = going-same s (idle s) a refl refl refl refl
+
+  pub advance-end : {block psl′ ltl′ out′ : List ℕ} (r : State) → length block ≡ 0 → Finished line psl ltl (idle s) r psl′ ltl′ out′
+      → Advanced block line psl ltl s (ended r) line psl′ ltl′ out′
+  advance-end {block} {out′ = out′} r e d =
+      record {
+        within = within-as r (ended r) (d .within) refl refl refl refl (λ m. absurd (never m refl));
+        room = d .room;
+        goes = λ m. absurd (never m refl);
+        ends = λ _ read done a. subst (λ (x : List ℕ). Ends read x (done ++ take (r .gathered) out′)) (sym (nil block e)) (d .tells read done (anew a));
+      }
+
+  pub advance-on : {block line′ psl′ ltl′ out′ : List ℕ} (r : State) → (length block ≡ 0 → ⊥) → Fed block line psl ltl (idle s) r line′ psl′ ltl′ out′
+      → Advanced block line psl ltl s r line′ psl′ ltl′ out′
+  advance-on {block} {out′ = out′} r some d =
+      record {
+        within = d .within;
+        room = d .room;
+        goes = λ m read done a. d .tells read done (anew a) .going m;
+        ends = λ m read done a. go block some read (done ++ take (r .gathered) out′) (d .tells read done (anew a) .over m);
+      }
+    where
+      go : (xs : List ℕ) → (length xs ≡ 0 → ⊥) → (read out : List ℕ) → ((rest : List ℕ) → Runs ((read ++ xs) ++ rest) out) → Ends read xs out
+      go [] z read out f = absurd (z refl)
+      go (x ∷ xs) z read out f = λ rest. subst (λ (y : List ℕ). Runs y out) (append-assoc read (x ∷ xs) rest) (f rest)
+
+-- ── A turn ──
+
+module _ {line psl ltl out : List ℕ} (s : State) (w : Within s line psl ltl out) where
+  pub within-idle : Within (idle s) line psl ltl out
+  within-idle = within-as s (idle s) w refl refl refl refl (λ m. (m, w .working m))
+
+  within-stopped : Within (stopped s) line psl ltl out
+  within-stopped = within-as s (stopped s) w refl refl refl refl (λ m. absurd (never m refl))
+
+-- It took the block.
+pub turn-taken : {line psl ltl line′ psl′ ltl′ out′ : List ℕ} (block : List ℕ) (s r : State) → Advanced block line psl ltl s r line′ psl′ ltl′ out′
+    → Turned line psl ltl s r line′ psl′ ltl′ out′
+turn-taken block s r a = record { within = a .within; block = block; stops = λ e. go e (r .more) refl; takes = λ _. a }
+  where
+    go : r .failed ≡ true → (m : Bool) → r .more ≡ m → r .more ≡ false
+    go e true h = absurd (never e (a .within .working h))
+    go e false h = h
+
+-- It stops, from the state r on.
+pub turn-stopped : {line psl ltl line′ psl′ ltl′ out′ : List ℕ} (s r r′ : State) → Within r line′ psl′ ltl′ out′ → r′ ≡ stopped r → Turned line psl ltl s r′ line′ psl′ ltl′ out′
+turn-stopped {line} {psl} {ltl} {line′} {psl′} {ltl′} {out′} s r r′ w e =
+    subst (λ (q : State). Turned line psl ltl s q line′ psl′ ltl′ out′) (sym e)
+    (record { within = within-stopped r w; block = []; stops = λ _. refl; takes = λ h. absurd (never refl h) })
+
+-- Nothing was read.
+pub turn-idle : {line psl ltl out : List ℕ} (s r : State) → Within s line psl ltl out → s .more ≡ true → (r ≡ idle s) ⊎ (r ≡ stopped s)
+    → Turned line psl ltl s r line psl ltl out
+turn-idle s r w m (inr e) = turn-stopped s s r w e
+turn-idle {line} {psl} {ltl} {out} s r w m (inl e) =
+    subst (λ (q : State). Turned line psl ltl s q line psl ltl out) (sym e)
+    (record {
+      within = within-idle s w;
+      block = [];
+      stops = λ h. absurd (never h (w .working m));
+      takes = λ _. record {
+        within = within-idle s w;
+        room = omega arith;
+        goes = λ _ read done a.
+            subst (λ (x : List ℕ). Going (read ++ []) x (idle s) line psl ltl) (sym (append-nil done))
+            (subst (λ (x : List ℕ). Going x done (idle s) line psl ltl) (sym (append-nil read)) (anew s a));
+        ends = λ h. absurd (never m h);
+      };
+    })
+
+-- ── The whole run ──
+
+-- Some bytes were read and some printed, and the run goes on from them.
+abbrev pub Underway : State → List ℕ → List ℕ → List ℕ → Type 0
+Underway s line psl ltl = (read : List ℕ) × (done : List ℕ) × Going read done s line psl ltl
+
+pub underway-turn : {line psl ltl line′ psl′ ltl′ out′ : List ℕ} (s r : State) → Underway s line psl ltl → Turned line psl ltl s r line′ psl′ ltl′ out′ → r .more ≡ true
+    → Underway r line′ psl′ ltl′
+underway-turn {out′ = out′} s r (read, done, g) t m =
+    (read ++ t .block, done ++ take (r .gathered) out′, t .takes (t .within .working m) .goes m read done g)

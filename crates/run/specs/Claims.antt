@@ -1,0 +1,21 @@
+-- What holds of every run, each statement proved in `ClaimsLaw`.
+use mathlib.Core.Path.{_≡_}
+use mathlib.Core.Logic.{_↔_}
+use mathlib.Core.List.{List}
+use Prim.Native.Nat.{ℕ, _<_}
+use Rattle.trace.specs.Moments.{size}
+use Rattle.psl.specs.Formula.{Formula}
+use Rattle.verdict.specs.declared.Verdict.{Verdict}
+use Rattle.lines.specs.Text.{text}
+use Rattle.lines.specs.Spelling.{Trace}
+use Rattle.run.specs.Printed.{verdictText}
+use Rattle.run.specs.Whole.{Judged, Runs}
+
+pub record Claims : Type 0 where
+  -- An input has one output.
+  pub one-output : (input out out′ : List ℕ) → Runs input out → Runs input out′ → out ≡ out′
+  -- The two verdicts agree on every trace that is not empty.
+  pub agree : (f : Formula) (t : Trace) (v w : Verdict) → Judged f t v w → 0 < size (t .lead) (t .loop) → v ≡ w
+  -- `none` is printed for the LTL verdict on the empty trace, and nowhere else.
+  pub none-ltl : (f : Formula) (t : Trace) (v w : Verdict) → Judged f t v w → (verdictText w ≡ text "none") ↔ (size (t .lead) (t .loop) ≡ 0)
+  pub none-psl : (f : Formula) (t : Trace) (v w : Verdict) → Judged f t v w → verdictText v ≡ text "none" → ⊥
