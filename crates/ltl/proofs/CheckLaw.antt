@@ -23,7 +23,7 @@ plain : (k : ℕ) → k < 11 → asksBoolean (shapeOf ltlRules k) ≡ false
 plain k h = not-true _ (every (λ j. not (asksBoolean (shapeOf ltlRules j))) 11 refl k h)
 
 module _ (t : List ℕ) (i : ℕ) where
-  abbrev Low : Bool
+  abbrev pub Low : Bool
   Low = BothLow (shapeOf ltlRules (kindAt t i)) i (leftAt t i) (rightAt t i)
 
   pub low-none : kindAt t i < 7 → Low ≡ true → refusalAt ltlRules t i ≡ none

@@ -1,6 +1,7 @@
 // LTL tables and their check.
 use table::Checked;
 use table::FORMULA;
+use table::NodeNo;
 use table::Numbers;
 use table::Rules;
 use table::SIGNAL;
@@ -78,5 +79,6 @@ pub fn check_ltl(t: &[u16]) -> Checked
     if t.len() / 3 <= i {
         return Checked::Accepted;
     }
-    table::refused_at(LTL, t, i)
+    let own = i as u16;
+    table::refused_at(LTL, t, NodeNo(own))
 }

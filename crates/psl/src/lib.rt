@@ -2,6 +2,7 @@
 use table::BOOLEAN;
 use table::Checked;
 use table::FORMULA;
+use table::NodeNo;
 use table::Numbers;
 use table::Place;
 use table::Rules;
@@ -10,12 +11,13 @@ use table::Shape;
 use table::UNUSED;
 use trace::Refusal;
 ghost use mathlib.Core.Path.{_≡_};
-ghost use mathlib.Core.Bool.{true, cond};
+ghost use mathlib.Core.Bool.{true, cond, _&&_};
 ghost use Prim.Native.Nat.{_<_};
+ghost use lib.Dec.{ltb};
 ghost use lib.ListN.{length, getD};
 ghost use Rattle.table.specs.Answer.{checked};
-ghost use Rattle.table.specs.Node.{count};
-ghost use Rattle.table.specs.Check.{masked, FirstRefused};
+ghost use Rattle.table.specs.Node.{count, kindAt};
+ghost use Rattle.table.specs.Check.{masked, sortFits, allFit, FirstRefused};
 ghost use Rattle.psl.specs.Check.{pslRules, one, treeRefusal, pslRefusal};
 ghost use Rattle.psl.specs.Counts.{Counted, Tallied};
 ghost use Rattle.psl.specs.Answer.{PslChecks};
@@ -47,6 +49,36 @@ pub const PSL: Rules = Rules {
         sort: 6,
     },
 };
+
+// The node whose kind is read for a place: where the place has no operand, any will do.
+fn named(p: Place, n: u16) -> u16
+    requires { ⌜ masked p ≡ true ⌝ }
+    ensures { λ r. ⌜ r ≡ cond (p .operand) n 0 ⌝ }
+{
+    n & p.mask
+}
+
+// What place p names is of its sort.
+fn named_fits(p: Place, n: u16, t: &[u16], booleans: u16) -> bool
+    requires { ⌜ (masked p ≡ true) × (cond (p .operand) n 0 < count (now t)) ⌝ }
+    ensures { λ r. ⌜ r ≡ sortFits p (ltb (kindAt (now (t .entry)) n) booleans) ⌝ }
+{
+    let m = named(p, n) as usize;
+    table::sort_fits(p, t[3 * m] < booleans)
+}
+
+// All four tests at once, and for both places, without a branch on what a place holds: first that it is low enough, then its sort.
+fn places_fit(h: Shape, i: u16, l: u16, r: u16, t: &[u16], booleans: u16) -> bool
+    requires { ⌜ (i < count (now t)) × (masked (h .0) ≡ true) × (masked (h .1) ≡ true) ⌝ }
+    ensures { λ x. ⌜ x ≡ (allFit (h .0) l i (ltb (kindAt (now (t .entry)) l) booleans) && allFit (h .1) r i (ltb (kindAt (now (t .entry)) r) booleans)) ⌝ }
+{
+    let p = h.0;
+    let q = h.1;
+    if !table::places_low(h, i, l, r) {
+        return false;
+    }
+    named_fits(p, l, t, booleans) & named_fits(q, r, t, booleans)
+}
 
 // Where a place that holds n is counted: at its operand, or else at its own node i.
 fn counted_at(p: Place, n: u16, i: u16) -> u16
@@ -90,7 +122,7 @@ fn count_uses(t: &[u16], c: &mut [u16]) -> usize
         }
         let at = k as usize;
         let h = rules.shapes[at];
-        if !table::places_fit(h, i as u16, l, r, t, rules.booleans) {
+        if !places_fit(h, i as u16, l, r, t, rules.booleans) {
             return i;
         }
         let p = h.0;
@@ -128,7 +160,8 @@ fn check_nodes(t: &[u16], c: &mut [u16]) -> Checked
 {
     let i = count_uses(t, &mut *c);
     if i < t.len() / 3 {
-        return table::refused_at(PSL, t, i);
+        let own = i as u16;
+        return table::refused_at(PSL, t, NodeNo(own));
     }
     check_uses(t, &*c)
 }

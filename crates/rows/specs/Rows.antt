@@ -34,6 +34,12 @@ SignalIn s k w = (i m : ℕ) → i + m + 1 ≡ length s → m < mostLetters → 
 pub record Known (lead loop : List ℕ) (known : ℕ) (rows : List ℕ) : Type 0 where
   pub row : (k : ℕ) → k < signals → T (bit known k) → Tells lead loop (getD rows k 0) (lvar k)
 
+-- Signal k is learnt, where the list has a word for each signal: r is what is known then.
+abbrev pub Learns : List ℕ → List ℕ → ℕ → ℕ → List ℕ → ℕ → List ℕ → Type 0
+Learns lead loop k known rows r rows′ =
+    Few lead loop → k < signals → signals ≤ length rows → Known lead loop known rows
+    → Known lead loop r rows′ × T (bit r k) × ((j : ℕ) → T (bit known j) → T (bit r j))
+
 -- Until in one sweep from the last letter back: the second operand, or the first and the until that follows. The carry follows the last letter.
 pub record Swept (f g : ℕ) (carry : Bool) (r : ℕ) : Type 0 where
   pub last : bit r 0 ≡ bit g 0 || bit f 0 && carry

@@ -1,5 +1,7 @@
 // Rows: the truths of an LTL tree at all moments of a trace, in one word. not, and, or are one operation of the machine; RowLaw has what they tell.
 use std::num::wrapping_add_u64;
+use std::num::wrapping_sub_usize;
+use table::SIGNALS;
 use trace::Letter;
 ghost use mathlib.Core.Path.{_≡_};
 ghost use mathlib.Core.Logic.{_↔_};
@@ -7,14 +9,15 @@ ghost use mathlib.Core.List.{List, _++_};
 ghost use Prim.Native.Nat.{ℕ, _≤_, _<_};
 ghost use lib.Dec.{T};
 ghost use lib.ListN.{length};
-ghost use Rattle.trace.specs.Letter.{bit, signals, mostLetters};
+ghost use Rattle.trace.specs.Letter.{bit, signals};
 ghost use Rattle.trace.specs.Moments.{size};
 ghost use Rattle.ltl.specs.Tree.{Ltl, lvar, lnot, land, lor, lnext, luntil};
 ghost use Rattle.ltl.specs.Meaning.{LtlHoldsOn};
-ghost use Rattle.rows.specs.Rows.{Tells, Few, SignalIn, Known, Swept, TellsNode};
+ghost use Rattle.rows.specs.Rows.{Tells, Few, SignalIn, Learns, Swept, TellsNode};
 
 // The last letter of both lists has the lowest bit, the one before it the next, and so on; bits past the first letter may hold anything. So what
-// follows a moment is one bit lower, and nothing has to be masked out.
+// follows a moment is one bit lower, and nothing has to be masked out. A shift is taken modulo the word's length, so that no caller has to
+// show that a trace has room; what a row tells is said of those that have.
 pub type Row = u64;
 
 // The most letters that a verdict takes: a bit for each.
@@ -39,22 +42,26 @@ fn signal_after(before: Row, s: &[Letter], k: u16) -> Row
 
 // The row of signal k.
 fn signal_row(lead: &[Letter], cycle: &[Letter], k: u16) -> Row
-    requires { ⌜ Few (now lead) (now cycle) × (k < signals) ⌝ }
-    ensures { λ w. ⌜ Tells (now (lead .entry)) (now (cycle .entry)) w (lvar k) ⌝ }
+    requires { ⌜ k < signals ⌝ }
+    ensures { λ w. ⌜ (Few (now (lead .entry)) (now (cycle .entry)) → Tells (now (lead .entry)) (now (cycle .entry)) w (lvar k)) ⌝ }
 {
     signal_after(signal_after(0, lead, k), cycle, k)
 }
 
 // Signal k becomes known: its row is made where it is not there yet. The answer is the signals that are known then.
 pub fn learn(k: u16, known: Letter, rows: &mut [Row], lead: &[Letter], cycle: &[Letter]) -> Letter
-    requires { ⌜ Few (now lead) (now cycle) × (k < signals) × (signals ≤ length (now rows)) × Known (now lead) (now cycle) known (now rows) ⌝ }
-    ensures { λ r. ⌜ Known (now (lead .entry)) (now (cycle .entry)) r (now (rows .exit)) × T (bit r k) × ((j : ℕ) → T (bit known j) → T (bit r j)) ⌝ }
+    ensures { λ r. ⌜ Learns (now (lead .entry)) (now (cycle .entry)) k known (now (rows .entry)) r (now (rows .exit)) ⌝ }
 {
-    if (known >> k) & 1 == 1 {
+    let s = k % SIGNALS;
+    if (known >> s) & 1 == 1 {
         return known;
     }
-    rows[k as usize] = signal_row(lead, cycle, k);
-    known | (1 << k)
+    let at = s as usize;
+    if rows.len() <= at {
+        return known;
+    }
+    rows[at] = signal_row(lead, cycle, s);
+    known | (1 << s)
 }
 
 // What accept row a and reject row r make of row b: a or (b and not r).
@@ -67,13 +74,12 @@ pub fn gate(a: Row, b: Row, r: Row) -> Row
 
 // The row of next, where the loop has so many letters, 0 for none: each bit from the one below it, and the lowest from the loop's first.
 pub fn next_row(a: Row, period: usize) -> Row
-    requires { ⌜ period ≤ mostLetters ⌝ }
     ensures { λ w. ⌜ ((lead loop : List ℕ) (x : Ltl) → Few lead loop → length loop ≡ period → Tells lead loop a x → Tells lead loop w (lnext x)) ⌝ }
 {
     if period == 0 {
         a << 1
     } else {
-        (a << 1) | ((a >> (period - 1)) & 1)
+        (a << 1) | ((a >> ((period - 1) % MOST_LETTERS)) & 1)
     }
 }
 
@@ -88,7 +94,6 @@ fn sweep(f: Row, g: Row, carry: Row) -> Row
 
 // The row of until, where the loop has so many letters, 0 for none: from no, and on a loop again from what that says of the loop's start.
 pub fn until_row(f: Row, g: Row, period: usize) -> Row
-    requires { ⌜ period ≤ mostLetters ⌝ }
     ensures { λ w. ⌜ ((lead loop : List ℕ) (x y : Ltl) → Few lead loop → length loop ≡ period
         → Tells lead loop f x → Tells lead loop g y → Tells lead loop w (luntil x y)) ⌝ }
 {
@@ -96,7 +101,7 @@ pub fn until_row(f: Row, g: Row, period: usize) -> Row
     if period == 0 {
         once
     } else {
-        sweep(f, g, once >> (period - 1))
+        sweep(f, g, once >> ((period - 1) % MOST_LETTERS))
     }
 }
 
@@ -116,7 +121,6 @@ fn logic_row(k: u16, a: Row, b: Row) -> Row
 
 // The row of an LTL node of kind k, not a signal's, by its operands' rows a and b.
 pub fn node_row(k: u16, a: Row, b: Row, period: usize) -> Row
-    requires { ⌜ period ≤ mostLetters ⌝ }
     ensures { λ w. ⌜ ((lead loop : List ℕ) (l : ℕ) → Few lead loop → length loop ≡ period → (k ≡ 1 → ⊥) → TellsNode lead loop k l a b w) ⌝ }
 {
     if k < 2 {
@@ -134,8 +138,7 @@ pub fn node_row(k: u16, a: Row, b: Row, period: usize) -> Row
 
 // Whether a tree holds on a trace of so many letters, by its row: its truth at moment 0.
 pub fn at_first(w: Row, letters: usize) -> bool
-    requires { ⌜ (0 < letters) × (letters ≤ mostLetters) ⌝ }
-    ensures { λ b. ⌜ ((lead loop : List ℕ) (x : Ltl) → size lead loop ≡ letters → Tells lead loop w x → LtlHoldsOn x lead loop ↔ T b) ⌝ }
+    ensures { λ b. ⌜ ((lead loop : List ℕ) (x : Ltl) → Few lead loop → size lead loop ≡ letters → Tells lead loop w x → LtlHoldsOn x lead loop ↔ T b) ⌝ }
 {
-    (w >> (letters - 1)) & 1 == 1
+    (w >> (wrapping_sub_usize(letters, 1) % MOST_LETTERS)) & 1 == 1
 }

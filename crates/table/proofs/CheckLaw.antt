@@ -19,7 +19,7 @@ use Rattle.table.specs.declared.Rules.{Rules}
 use Rattle.table.specs.declared.Checked.{Checked}
 use Rattle.table.specs.declared.Checked.the-variants.{Accepted, Refused}
 use Rattle.table.specs.Answer.{refused, checked}
-use Rattle.table.specs.Node.{count, kindAt, leftAt, rightAt, nodeAt}
+use Rattle.table.specs.Node.{node, count, kindAt, leftAt, rightAt}
 use Rattle.table.specs.Check.{unusedFits, signalFits, operandFits, sortFits, lowFits, allFit, lengthFits, known, mostKinds, shapeOf, masked, unless, placesRefusal, nodeRefusal, isBoolean, refusalAt, orElse, lowest, tableRefusal}
 
 -- ── Tests and answers ──
@@ -281,11 +281,11 @@ module _ (R : Rules) (t : List ℕ) (i : ℕ) where
       let f = places-fit (R .numbers) (shapeOf R (kindAt t i)) i (leftAt t i) (rightAt t i) _ _ (a .1) in
       record { kind = a .0; left = f .0; right = f .1 }
 
--- Node i as the code reads it: the kinds of what its places name are a and b.
-module _ (R : Rules) (t : List ℕ) (i a b : ℕ) (ea : a ≡ kindAt t (leftAt t i)) (eb : b ≡ kindAt t (rightAt t i)) where
-  pub read-node : nodeRefusal R i (nodeAt t i) (ltb a (R .booleans)) (ltb b (R .booleans)) ≡ refusalAt R t i
-  unfolding refusalAt
-  read-node = rw (ea, eb)
+-- Node i as the code reads it: a and b are the kinds of what its places name.
+pub read-node : (R : Rules) (t : List ℕ) (i : ℕ) {k l r a b : ℕ} → k ≡ kindAt t i → l ≡ leftAt t i → r ≡ rightAt t i → a ≡ kindAt t l → b ≡ kindAt t r
+    → nodeRefusal R i (node k l r) (ltb a (R .booleans)) (ltb b (R .booleans)) ≡ refusalAt R t i
+unfolding refusalAt
+read-node R t i ek el er ea eb = rw (ea, eb, ek, el, er)
 
 -- All tests of both places at once, as the loop makes them.
 module _ (R : Rules) (t : List ℕ) (i : ℕ) where

@@ -3,13 +3,12 @@ use trace::Refusal;
 ghost use mathlib.Core.Path.{_≡_};
 ghost use mathlib.Core.Bool.{true, false, cond, _&&_};
 ghost use mathlib.Core.Option.{Option};
-ghost use Prim.Native.Nat.{_<_, _≤_};
-ghost use lib.Dec.{ltb};
-ghost use lib.ListN.{length};
+ghost use Prim.Native.Nat.{_<_};
+ghost use lib.ListN.{getD};
 ghost use Rattle.trace.specs.declared.Refusal.{Refusal};
-ghost use Rattle.table.specs.Node.{node, count, kindAt};
+ghost use Rattle.table.specs.Node.{node};
 ghost use Rattle.table.specs.Answer.{refused, checked};
-ghost use Rattle.table.specs.Check.{lengthFits, unusedFits, signalFits, operandFits, sortFits, lowFits, allFit, masked, unless, placesRefusal, nodeRefusal, tableRefusal, FirstRefused};
+ghost use Rattle.table.specs.Check.{lengthFits, unusedFits, signalFits, operandFits, sortFits, lowFits, masked, unless, placesRefusal, nodeRefusal, refusalAt};
 
 // The number of a node, counted from 0 along a table: never a point of time.
 pub struct NodeNo(pub u16);
@@ -115,66 +114,33 @@ fn operand_fits(p: Place, n: u16, i: u16) -> bool
     !p.operand | (n < i)
 }
 
-fn sort_fits(p: Place, b: bool) -> bool
+pub fn sort_fits(p: Place, b: bool) -> bool
     ensures { λ r. ⌜ r ≡ sortFits p b ⌝ }
 {
     !p.operand | (b == p.boolean)
 }
 
-// What a place of node i holds is below this.
+// What a place of node i holds is below this, if its mask is right.
 fn bound(p: Place, i: u16) -> u16
-    requires { ⌜ masked p ≡ true ⌝ }
-    ensures { λ r. ⌜ r ≡ cond (p .operand) i (p .limit) ⌝ }
+    ensures { λ r. ⌜ (masked p ≡ true → r ≡ cond (p .operand) i (p .limit)) ⌝ }
 {
     (i & p.mask) | p.limit
 }
 
-// The kind of a node, 0 past the last.
-fn kind_at(t: &[u16], n: u16) -> u16
-    ensures { λ r. ⌜ r ≡ kindAt (now (t .entry)) n ⌝ }
+// A number of a list, 0 past its end.
+fn number_at(t: &[u16], at: usize) -> u16
+    ensures { λ r. ⌜ r ≡ getD (now (t .entry)) at 0 ⌝ }
 {
-    let at = 3 * n as usize;
     if at < t.len() { t[at] } else { 0 }
 }
 
-// The node whose kind is read for a place: where the place has no operand, any will do.
-fn named(p: Place, n: u16) -> u16
-    requires { ⌜ masked p ≡ true ⌝ }
-    ensures { λ r. ⌜ r ≡ cond (p .operand) n 0 ⌝ }
-{
-    n & p.mask
-}
-
-// What place p names is of its sort.
-fn named_fits(p: Place, n: u16, t: &[u16], booleans: u16) -> bool
-    requires { ⌜ (masked p ≡ true) × (cond (p .operand) n 0 < count (now t)) ⌝ }
-    ensures { λ r. ⌜ r ≡ sortFits p (ltb (kindAt (now (t .entry)) n) booleans) ⌝ }
-{
-    let m = named(p, n) as usize;
-    sort_fits(p, t[3 * m] < booleans)
-}
-
-// Both places of node i are low enough. There is no branch on what they hold.
+// Both places of node i are low enough, if their masks are right. There is no branch on what they hold.
 pub fn places_low(h: Shape, i: u16, l: u16, r: u16) -> bool
-    requires { ⌜ (masked (h .0) ≡ true) × (masked (h .1) ≡ true) ⌝ }
-    ensures { λ x. ⌜ x ≡ (lowFits (h .0) l i && lowFits (h .1) r i) ⌝ }
+    ensures { λ x. ⌜ (masked (h .0) ≡ true → masked (h .1) ≡ true → x ≡ (lowFits (h .0) l i && lowFits (h .1) r i)) ⌝ }
 {
     let p = h.0;
     let q = h.1;
     (l < bound(p, i)) & (r < bound(q, i))
-}
-
-// All four tests at once, and for both places, without a branch on what a place holds: first that it is low enough, then its sort.
-pub fn places_fit(h: Shape, i: u16, l: u16, r: u16, t: &[u16], booleans: u16) -> bool
-    requires { ⌜ (i < count (now t)) × (masked (h .0) ≡ true) × (masked (h .1) ≡ true) ⌝ }
-    ensures { λ x. ⌜ x ≡ (allFit (h .0) l i (ltb (kindAt (now (t .entry)) l) booleans) && allFit (h .1) r i (ltb (kindAt (now (t .entry)) r) booleans)) ⌝ }
-{
-    let p = h.0;
-    let q = h.1;
-    if !places_low(h, i, l, r) {
-        return false;
-    }
-    named_fits(p, l, t, booleans) & named_fits(q, r, t, booleans)
 }
 
 // The refusal of that number unless a test was passed, then what the later tests answer.
@@ -226,14 +192,14 @@ pub fn check_node(rules: Rules, i: NodeNo, k: u16, l: u16, r: u16, lb: bool, rb:
     check_places(x, h, i.0, l, r, lb, rb)
 }
 
-// The answer for a table of the right length, by its lowest node that is refused.
-pub fn refused_at(rules: Rules, t: &[u16], i: usize) -> Checked
-    requires { ⌜ (lengthFits (rules .most) (length (now t)) ≡ true) × (i < count (now t)) × (i < 65536) × FirstRefused rules (now t) i ⌝ }
-    ensures { λ x. ⌜ x ≡ checked (tableRefusal rules (now (t .entry))) ⌝ }
+// The answer for node i of a table, whatever the table is.
+pub fn refused_at(rules: Rules, t: &[u16], i: NodeNo) -> Checked
+    ensures { λ x. ⌜ x ≡ checked (refusalAt rules (now (t .entry)) (i .0)) ⌝ }
 {
-    let l = t[3 * i + 1];
-    let r = t[3 * i + 2];
-    let lb = kind_at(t, l) < rules.booleans;
-    let rb = kind_at(t, r) < rules.booleans;
-    check_node(rules, NodeNo(i as u16), t[3 * i], l, r, lb, rb)
+    let at = 3 * (i.0 as usize);
+    let l = number_at(t, at + 1);
+    let r = number_at(t, at + 2);
+    let lb = number_at(t, 3 * (l as usize)) < rules.booleans;
+    let rb = number_at(t, 3 * (r as usize)) < rules.booleans;
+    check_node(rules, i, number_at(t, at), l, r, lb, rb)
 }

@@ -66,7 +66,7 @@ fn boolean_row(t: &[u16], i: NodeNo, vars: &[Row; 32]) -> Row
 
 // The row of a formula's translation, by the rows of accept and reject and of its signals; the trace's loop has `period` letters.
 fn formula_row(t: &[u16], i: NodeNo, a: Row, r: Row, vars: &[Row; 32], period: usize) -> Row
-    requires { ⌜ (pslRefusal (now t) ≡ none) × (i .0 < count (now t)) × (4 ≤ kindAt (now t) (i .0)) × (period ≤ mostLetters) ⌝ }
+    requires { ⌜ (pslRefusal (now t) ≡ none) × (i .0 < count (now t)) × (4 ≤ kindAt (now t) (i .0)) ⌝ }
     ensures { λ w. ⌜ ((lead loop : List ℕ) → Few lead loop → length loop ≡ period → SignalRows lead loop (now (t .entry)) (now (vars .entry))
         → TellsFormula lead loop (formulaAt (now (t .entry)) (i .0)) a r w) ⌝ }
 {

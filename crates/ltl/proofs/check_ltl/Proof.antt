@@ -7,36 +7,27 @@ use native.Mathlib.Omega.{arith}
 use borrow.Author.Tests.{not-true, not-false}
 use Rattle.table.specs.Check.{lengthFits}
 use Rattle.table.specs.Answer.{checked}
-use Rattle.table.proofs.CheckLaw.{sized, refused-length, refused-none}
+use Rattle.table.proofs.CheckLaw.{sized, refused-length, refused-node, refused-none}
 use Rattle.ltl.specs.Check.{ltlRules}
 use Rattle.ltl.proofs.check_ltl.Statement.{statement}
 use Rattle.ltl.proofs.check_ltl.Tie as tie
-use Rattle.ltl.proofs.check_ltl.Reads as reads
-use Rattle.ltl.proofs.check_ltl.Lts as lts
-use Rattle.ltl.proofs.first_refused.Reads as first-refused-reads
-use Rattle.table.proofs.length_fits.Reads as length-fits-reads
-use Rattle.table.proofs.refused_at.Reads as refused-at-reads
 
 -- Past the test of the length.
 right-length : (e : tie.Else1) → let a = e .before .before .before .args in lengthFits (ltlRules .most) (length (a .t .now)) ≡ true
 right-length e = sym (e .before .length-fits .ensures .0) ∙ not-false _ (e .if1 .left)
 
--- src/lib.rt:75:9
 length-fits-requires : tie.Need-length-fits-requires
 length-fits-requires c κs = search needs
 
--- src/lib.rt:76:9
 returns : tie.Need-returns
 returns c =
     let f = c .before in
     let a = f .before .before .args in
     sym (ap checked (refused-length ltlRules (a .t .now) (sym (f .length-fits .ensures .0) ∙ not-true (f .length-fits .result) (c .if1 .taken))))
 
--- src/lib.rt:78:9
 first-refused-requires : tie.Need-first-refused-requires
 first-refused-requires c κs = omega (arith, sized ltlRules (c .before .before .before .args .t .now) (right-length c) .low)
 
--- src/lib.rt:80:9
 returns-2 : tie.Need-returns-2
 returns-2 c =
     let f = c .before in
@@ -44,16 +35,20 @@ returns-2 c =
     let F = f .first-refused .ensures in
     sym (ap checked (refused-none ltlRules (e .before .before .before .args .t .now) (right-length e) (f .first-refused .result) (omega (arith, F .within)) (F .passed)))
 
--- src/lib.rt:82:5
-refused-at-requires : tie.Need-refused-at-requires
-refused-at-requires c κs =
-    let f = c .before in
-    let e = f .before in
-    (right-length e, omega arith, omega (arith, sized ltlRules (e .before .before .before .args .t .now) (right-length e) .low), f .first-refused .ensures)
+cast-own : tie.Need-cast-own
+cast-own c =
+    let e = c .before .before in
+    omega (arith, sized ltlRules (e .before .before .before .args .t .now) (right-length e) .low)
 
--- src/lib.rt:72:1
+refused-at-requires : tie.Need-refused-at-requires
+refused-at-requires c κs = search needs
+
 returns-3 : tie.Need-returns-3
-returns-3 c = search needs
+returns-3 c =
+    let f = c .before .before in
+    let e = f .before in
+    let F = f .first-refused .ensures in
+    refused-node ltlRules (e .before .before .before .args .t .now) (right-length e) (f .first-refused .result) (c .refused-at .result) (omega arith) (F .passed) (F .stopped (omega arith)) (c .refused-at .ensures)
 
 pub check-ltl-spec : {M : Type 1} → statement M
 check-ltl-spec =
@@ -63,5 +58,6 @@ check-ltl-spec =
     returns
     first-refused-requires
     returns-2
+    cast-own
     refused-at-requires
     returns-3)

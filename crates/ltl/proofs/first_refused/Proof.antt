@@ -9,12 +9,9 @@ use Rattle.table.specs.Node.{count, kindAt}
 use Rattle.table.specs.Check.{mostKinds, refusalAt, lowest}
 use Rattle.table.proofs.CheckLaw.{left-masked, right-masked, kind-unknown, unknown-some, lowest-zero, lowest-next}
 use Rattle.ltl.specs.Check.{ltlRules}
-use Rattle.ltl.proofs.CheckLaw.{rules-made, low-none, low-some}
+use Rattle.ltl.proofs.CheckLaw.{rules-made, Low, low-none, low-some}
 use Rattle.ltl.proofs.first_refused.Statement.{statement}
 use Rattle.ltl.proofs.first_refused.Tie as tie
-use Rattle.ltl.proofs.first_refused.Reads as reads
-use Rattle.ltl.proofs.first_refused.Lts as lts
-use Rattle.table.proofs.places_low.Reads as places-low-reads
 
 abbrev Inv-loop : tie.InvT-loop
 Inv-loop t rules n i₀ i = (i ≤ n) × (lowest (refusalAt ltlRules t) i ≡ none)
@@ -26,111 +23,92 @@ abbrev μ-loop : tie.MeasureT-loop
 low-kind : (u : tie.Else1 Inv-loop μ-loop) → let lp = u .before .before .before .before .before in kindAt (lp .before .before .args .t .now) (lp .loop .i) < 7
 low-kind u = omega arith
 
--- src/lib.rt:54:5
+-- What the test of its places says.
+low : (p : tie.After-places-low Inv-loop μ-loop) → let lp = p .before .before .before .before .before .before .before in p .places-low .result ≡ Low (lp .before .before .args .t .now) (lp .loop .i)
+low p =
+    let u = p .before .before in
+    let lp = u .before .before .before .before .before in
+    let h : kindAt (lp .before .before .args .t .now) (lp .loop .i) < mostKinds = omega (arith, low-kind u) in
+    p .places-low .ensures (left-masked rules-made _ h) (right-masked rules-made _ h)
+
 loop-holds : tie.Need-loop-holds Inv-loop μ-loop
 loop-holds c = (omega arith, lowest-zero _)
 
--- src/lib.rt:55:19
 mul-k : tie.Need-mul-k Inv-loop μ-loop
 mul-k c = search needs
 
--- src/lib.rt:55:17
 mul-k-2 : tie.Need-mul-k-2 Inv-loop μ-loop
 mul-k-2 c = search needs
 
--- src/lib.rt:55:17
 shared-slice-read-k : tie.Need-shared-slice-read-k Inv-loop μ-loop
 shared-slice-read-k c = search needs
 
--- src/lib.rt:56:19
 mul-l : tie.Need-mul-l Inv-loop μ-loop
 mul-l c = search needs
 
--- src/lib.rt:56:19
 add-l : tie.Need-add-l Inv-loop μ-loop
 add-l c = search needs
 
--- src/lib.rt:56:17
 mul-l-2 : tie.Need-mul-l-2 Inv-loop μ-loop
 mul-l-2 c = search needs
 
--- src/lib.rt:56:17
 shared-slice-read-l : tie.Need-shared-slice-read-l Inv-loop μ-loop
 shared-slice-read-l c = search needs
 
--- src/lib.rt:57:19
 mul-r : tie.Need-mul-r Inv-loop μ-loop
 mul-r c = search needs
 
--- src/lib.rt:57:19
 add-r : tie.Need-add-r Inv-loop μ-loop
 add-r c = search needs
 
--- src/lib.rt:57:17
 mul-r-2 : tie.Need-mul-r-2 Inv-loop μ-loop
 mul-r-2 c = search needs
 
--- src/lib.rt:57:17
 shared-slice-read-r : tie.Need-shared-slice-read-r Inv-loop μ-loop
 shared-slice-read-r c = search needs
 
--- src/lib.rt:59:13
 returns : tie.Need-returns Inv-loop μ-loop
 returns c =
     let lp = c .before .before .before .before .before in
     let t = lp .before .before .args .t .now in
     record { passed = lp .loop .inv .1; within = lp .loop .inv .0; stopped = λ _. unknown-some ltlRules t (lp .loop .i) (kind-unknown ltlRules _ (c .if1 .taken)) }
 
--- src/lib.rt:61:18
 cast-at : tie.Need-cast-at Inv-loop μ-loop
 cast-at c = omega (arith, low-kind c)
 
--- src/lib.rt:62:17
 mul-h : tie.Need-mul-h Inv-loop μ-loop
 mul-h c = omega (arith, low-kind c)
 
--- src/lib.rt:62:17
 element-copy-out-h : tie.Need-element-copy-out-h Inv-loop μ-loop
 element-copy-out-h c = omega (arith, low-kind c)
 
--- src/lib.rt:63:34
 cast-places-low : tie.Need-cast-places-low Inv-loop μ-loop
 cast-places-low c = search needs
 
--- src/lib.rt:63:13
 places-low-requires : tie.Need-places-low-requires Inv-loop μ-loop
-places-low-requires c κs =
-    let u = c .before in
-    let lp = u .before .before .before .before .before in
-    let h : kindAt (lp .before .before .args .t .now) (lp .loop .i) < mostKinds = omega (arith, low-kind u) in
-    (left-masked rules-made _ h, right-masked rules-made _ h)
+places-low-requires c κs = search needs
 
--- src/lib.rt:64:13
 returns-2 : tie.Need-returns-2 Inv-loop μ-loop
 returns-2 c =
     let p = c .before in
     let lp = p .before .before .before .before .before .before .before in
     let t = lp .before .before .args .t .now in
-    record { passed = lp .loop .inv .1; within = lp .loop .inv .0; stopped = λ _. low-some t (lp .loop .i) (sym (p .places-low .ensures) ∙ not-true _ (c .if2 .taken)) }
+    record { passed = lp .loop .inv .1; within = lp .loop .inv .0; stopped = λ _. low-some t (lp .loop .i) (sym (low p) ∙ not-true _ (c .if2 .taken)) }
 
--- src/lib.rt:66:9
 add-i : tie.Need-add-i Inv-loop μ-loop
 add-i c = search needs
 
--- src/lib.rt:54:5
 loop-less : tie.Need-loop-less Inv-loop μ-loop
 loop-less c = search needs
 
--- src/lib.rt:54:5
 loop-again : tie.Need-loop-again Inv-loop μ-loop
 loop-again c =
     let p = c .before in
     let u = p .before .before in
     let lp = u .before .before .before .before .before in
     let t = lp .before .before .args .t .now in
-    (omega arith, lowest-next (refusalAt ltlRules t) (lp .loop .i) (lp .loop .inv .1) (low-none t (lp .loop .i) (low-kind u) (sym (p .places-low .ensures) ∙ not-false _ (c .if2 .left))))
+    (omega arith, lowest-next (refusalAt ltlRules t) (lp .loop .i) (lp .loop .inv .1) (low-none t (lp .loop .i) (low-kind u) (sym (low p) ∙ not-false _ (c .if2 .left))))
 
--- src/lib.rt:47:1
 returns-3 : tie.Need-returns-3 Inv-loop μ-loop
 returns-3 c =
     let lp = c .before in

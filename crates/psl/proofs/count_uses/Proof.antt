@@ -15,10 +15,6 @@ use Rattle.psl.specs.Counts.{Tallied}
 use Rattle.psl.proofs.CheckLaw.{rules-made, left-room, right-room, tallied-next}
 use Rattle.psl.proofs.count_uses.Statement.{statement}
 use Rattle.psl.proofs.count_uses.Tie as tie
-use Rattle.psl.proofs.count_uses.Reads as reads
-use Rattle.psl.proofs.count_uses.Lts as lts
-use Rattle.psl.proofs.count_place.Reads as count-place-reads
-use Rattle.table.proofs.places_fit.Reads as places-fit-reads
 
 abbrev Inv-loop : tie.InvT-loop
 Inv-loop t c₀ rules n i₀ c i = (i ≤ n) × (length c ≡ length c₀) × Tallied t i c
@@ -52,92 +48,71 @@ fine e =
 inside : (u : tie.Else1 Inv-loop μ-loop) → turn u .loop .i < count (table (turn u))
 inside u = omega arith
 
--- src/lib.rt:83:5
 loop-holds : tie.Need-loop-holds Inv-loop μ-loop
 loop-holds c = (omega arith, refl, c .before .before .pre)
 
--- src/lib.rt:84:19
 mul-k : tie.Need-mul-k Inv-loop μ-loop
 mul-k c = search needs
 
--- src/lib.rt:84:17
 mul-k-2 : tie.Need-mul-k-2 Inv-loop μ-loop
 mul-k-2 c = search needs
 
--- src/lib.rt:84:17
 shared-slice-read-k : tie.Need-shared-slice-read-k Inv-loop μ-loop
 shared-slice-read-k c = search needs
 
--- src/lib.rt:85:19
 mul-l : tie.Need-mul-l Inv-loop μ-loop
 mul-l c = search needs
 
--- src/lib.rt:85:19
 add-l : tie.Need-add-l Inv-loop μ-loop
 add-l c = search needs
 
--- src/lib.rt:85:17
 mul-l-2 : tie.Need-mul-l-2 Inv-loop μ-loop
 mul-l-2 c = search needs
 
--- src/lib.rt:85:17
 shared-slice-read-l : tie.Need-shared-slice-read-l Inv-loop μ-loop
 shared-slice-read-l c = search needs
 
--- src/lib.rt:86:19
 mul-r : tie.Need-mul-r Inv-loop μ-loop
 mul-r c = search needs
 
--- src/lib.rt:86:19
 add-r : tie.Need-add-r Inv-loop μ-loop
 add-r c = search needs
 
--- src/lib.rt:86:17
 mul-r-2 : tie.Need-mul-r-2 Inv-loop μ-loop
 mul-r-2 c = search needs
 
--- src/lib.rt:86:17
 shared-slice-read-r : tie.Need-shared-slice-read-r Inv-loop μ-loop
 shared-slice-read-r c = search needs
 
--- src/lib.rt:88:13
 same-length : tie.Need-same-length Inv-loop μ-loop
 same-length c = search needs
 
--- src/lib.rt:88:13
 returns : tie.Need-returns Inv-loop μ-loop
 returns c =
     let lp = c .before .before .before .before .before in
     let I = lp .loop .inv in
     (record { passed = I .2 .passed; within = I .0; stopped = λ _. unknown-some pslRules (table lp) (lp .loop .i) (kind-unknown pslRules _ (c .if1 .taken)) }, I .2)
 
--- src/lib.rt:90:18
 cast-at : tie.Need-cast-at Inv-loop μ-loop
 cast-at c = omega (arith, low-kind c)
 
--- src/lib.rt:91:17
 mul-h : tie.Need-mul-h Inv-loop μ-loop
 mul-h c = omega (arith, low-kind c)
 
--- src/lib.rt:91:17
 element-copy-out-h : tie.Need-element-copy-out-h Inv-loop μ-loop
 element-copy-out-h c = low-kind c
 
--- src/lib.rt:92:34
 cast-places-fit : tie.Need-cast-places-fit Inv-loop μ-loop
 cast-places-fit c = let u = c .before in omega (arith, few (turn u), inside u)
 
--- src/lib.rt:92:13
 places-fit-requires : tie.Need-places-fit-requires Inv-loop μ-loop
 places-fit-requires c κs =
     let u = c .before in
     (inside u, left-masked rules-made _ (low-kind u), right-masked rules-made _ (low-kind u))
 
--- src/lib.rt:93:13
 same-length-2 : tie.Need-same-length-2 Inv-loop μ-loop
 same-length-2 c = search needs
 
--- src/lib.rt:93:13
 returns-2 : tie.Need-returns-2 Inv-loop μ-loop
 returns-2 c =
     let p = c .before in
@@ -145,22 +120,18 @@ returns-2 c =
     let I = lp .loop .inv in
     (record { passed = I .2 .passed; within = I .0; stopped = λ _. fast-some pslRules (table lp) (lp .loop .i) (sym (p .places-fit .ensures) ∙ not-true _ (c .if2 .taken)) }, I .2)
 
--- src/lib.rt:97:27
 cast-count-place : tie.Need-cast-count-place Inv-loop μ-loop
 cast-count-place c = let u = read (c .before .before) in omega (arith, few (turn u), inside u)
 
--- src/lib.rt:97:9
 count-place-requires : tie.Need-count-place-requires Inv-loop μ-loop
 count-place-requires c κs =
     let e = c .before .before .before in
     let u = read e in
     left-room (turn u .loop .inv .2) (inside u) (fine e)
 
--- src/lib.rt:98:27
 cast-count-place-2 : tie.Need-cast-count-place-2 Inv-loop μ-loop
 cast-count-place-2 c = let u = read (c .before .before .before .before .before .before) in omega (arith, few (turn u), inside u)
 
--- src/lib.rt:98:9
 count-place-requires-2 : tie.Need-count-place-requires-2 Inv-loop μ-loop
 count-place-requires-2 c κs =
     let l = c .before .before .before in
@@ -168,15 +139,12 @@ count-place-requires-2 c κs =
     let u = read e in
     right-room (turn u .loop .inv .2) (inside u) (fine e) _ (l .count-place .ensures)
 
--- src/lib.rt:99:9
 add-i : tie.Need-add-i Inv-loop μ-loop
 add-i c = search needs
 
--- src/lib.rt:83:5
 loop-less : tie.Need-loop-less Inv-loop μ-loop
 loop-less c = search needs
 
--- src/lib.rt:83:5
 loop-again : tie.Need-loop-again Inv-loop μ-loop
 loop-again c =
     let r = c .before .before in
@@ -188,11 +156,9 @@ loop-again c =
     let R = r .count-place2 .ensures in
     (omega arith, R .same ∙ L .same ∙ I .1, tallied-next (I .2) (inside u) (fine e) _ L _ R)
 
--- src/lib.rt:76:1
 same-length-3 : tie.Need-same-length-3 Inv-loop μ-loop
 same-length-3 c = search needs
 
--- src/lib.rt:76:1
 returns-3 : tie.Need-returns-3 Inv-loop μ-loop
 returns-3 c =
     let lp = c .before in

@@ -9,11 +9,6 @@ use Rattle.ltl.specs.Table.{treeOfNode}
 use Rattle.rows.proofs.RowLaw.{tells-true}
 use Rattle.rows.proofs.node_row.Statement.{statement}
 use Rattle.rows.proofs.node_row.Tie as tie
-use Rattle.rows.proofs.node_row.Reads as reads
-use Rattle.rows.proofs.node_row.Lts as lts
-use Rattle.rows.proofs.logic_row.Reads as logic-row-reads
-use Rattle.rows.proofs.next_row.Reads as next-row-reads
-use Rattle.rows.proofs.until_row.Reads as until-row-reads
 
 -- Kind 0, and what is no kind, stands for true.
 no-kind : (x : ℕ → Ltl) (k l r : ℕ) → (0 < k → 6 < k) → treeOfNode x (node k l r) ≡ ltrue
@@ -27,38 +22,30 @@ no-kind x (suc (suc (suc (suc (suc zero))))) l r h = absurd (omega (arith, h (om
 no-kind x (suc (suc (suc (suc (suc (suc zero)))))) l r h = absurd (omega (arith, h (omega arith)))
 no-kind x (suc (suc (suc (suc (suc (suc (suc k))))))) l r h = refl
 
--- src/lib.rt:123:9
 returns : tie.Need-returns
 returns c lead loop l few e n x r A B = rw (no-kind x (c .before .args .k) l r (λ h. absurd (n (omega arith)))) (tells-true few)
 
--- src/lib.rt:126:9
 logic-row-requires : tie.Need-logic-row-requires
 logic-row-requires c κs = search needs
 
--- src/lib.rt:126:9
 returns-2 : tie.Need-returns-2
 returns-2 c lead loop l few e n = c .logic-row .ensures lead loop l few
 
--- src/lib.rt:129:14
 next-row-requires : tie.Need-next-row-requires
 next-row-requires c κs = search needs
 
--- src/lib.rt:130:14
 until-row-requires : tie.Need-until-row-requires
 until-row-requires c κs = search needs
 
--- src/lib.rt:118:1
 returns-3 : tie.Need-returns-3
 unfolding treeOfNode
 returns-3 c lead loop l few e n x r A B = rw (c .before .match .keys1) (c .next-row .ensures lead loop (x l) few e (A (omega arith)))
 
--- src/lib.rt:118:1
 returns-4 : tie.Need-returns-4
 unfolding treeOfNode
 returns-4 c lead loop l few e n x r A B =
     rw (c .before .match .keys2) (c .until-row .ensures lead loop (x l) (x r) few e (A (omega arith)) (B (omega arith)))
 
--- src/lib.rt:118:1
 returns-5 : tie.Need-returns-5
 returns-5 c lead loop l few e n x r A B = rw (no-kind x (c .before .before .before .args .k) l r (λ h. omega arith)) (tells-true few)
 

@@ -1,103 +1,80 @@
--- The first node that is refused decides.
+-- `refused_at` reads the node and the kinds of what its places name, 0 past the end of the list, as the definition does.
 use borrow.Author.Needs.{needs}
 use mathlib.Core.Path.{ap, _∙_}
 use Rattle.table.specs.Answer.{checked}
-use Rattle.table.proofs.CheckLaw.{read-node, refused-node}
+use Rattle.table.proofs.CheckLaw.{read-node}
 use Rattle.table.proofs.refused_at.Statement.{statement}
 use Rattle.table.proofs.refused_at.Tie as tie
-use Rattle.table.proofs.refused_at.Reads as reads
-use Rattle.table.proofs.refused_at.Lts as lts
-use Rattle.table.proofs.check_node.Reads as check-node-reads
-use Rattle.table.proofs.kind_at.Reads as kind-at-reads
 
--- src/lib.rt:262:15
-mul-l : tie.Need-mul-l
-mul-l c = search needs
+cast-at : tie.Need-cast-at
+cast-at c = search needs
 
--- src/lib.rt:262:15
-add-l : tie.Need-add-l
-add-l c = search needs
+mul-at : tie.Need-mul-at
+mul-at c = search needs
 
--- src/lib.rt:262:13
-mul-l-2 : tie.Need-mul-l-2
-mul-l-2 c = search needs
+add-number-at : tie.Need-add-number-at
+add-number-at c = search needs
 
--- src/lib.rt:262:13
-shared-slice-read-l : tie.Need-shared-slice-read-l
-shared-slice-read-l c = search needs
+number-at-requires : tie.Need-number-at-requires
+number-at-requires c κs = search needs
 
--- src/lib.rt:263:15
-mul-r : tie.Need-mul-r
-mul-r c = search needs
+add-number-at-2 : tie.Need-add-number-at-2
+add-number-at-2 c = search needs
 
--- src/lib.rt:263:15
-add-r : tie.Need-add-r
-add-r c = search needs
+number-at-requires-2 : tie.Need-number-at-requires-2
+number-at-requires-2 c κs = search needs
 
--- src/lib.rt:263:13
-mul-r-2 : tie.Need-mul-r-2
-mul-r-2 c = search needs
+cast-number-at : tie.Need-cast-number-at
+cast-number-at c = search needs
 
--- src/lib.rt:263:13
-shared-slice-read-r : tie.Need-shared-slice-read-r
-shared-slice-read-r c = search needs
+mul-number-at : tie.Need-mul-number-at
+mul-number-at c = search needs
 
--- src/lib.rt:264:14
-kind-at-requires : tie.Need-kind-at-requires
-kind-at-requires c κs = search needs
+number-at-requires-3 : tie.Need-number-at-requires-3
+number-at-requires-3 c κs = search needs
 
--- src/lib.rt:265:14
-kind-at-requires-2 : tie.Need-kind-at-requires-2
-kind-at-requires-2 c κs = search needs
+cast-number-at-2 : tie.Need-cast-number-at-2
+cast-number-at-2 c = search needs
 
--- src/lib.rt:266:30
-cast-t12 : tie.Need-cast-t12
-cast-t12 c = search needs
+mul-number-at-2 : tie.Need-mul-number-at-2
+mul-number-at-2 c = search needs
 
--- src/lib.rt:266:43
-mul-check-node : tie.Need-mul-check-node
-mul-check-node c = search needs
+number-at-requires-4 : tie.Need-number-at-requires-4
+number-at-requires-4 c κs = search needs
 
--- src/lib.rt:266:41
-mul-check-node-2 : tie.Need-mul-check-node-2
-mul-check-node-2 c = search needs
+number-at-requires-5 : tie.Need-number-at-requires-5
+number-at-requires-5 c κs = search needs
 
--- src/lib.rt:266:41
-shared-slice-read-check-node : tie.Need-shared-slice-read-check-node
-shared-slice-read-check-node c = search needs
-
--- src/lib.rt:266:5
 check-node-requires : tie.Need-check-node-requires
 check-node-requires c κs = search needs
 
--- src/lib.rt:258:1
 returns : tie.Need-returns
 returns c =
-    let b = c .before .before .before in
-    let l = b .before .before in
-    let st = l .before .before .before .before in
-    let a = st .args in
-    let F = st .pre .3 in
-    refused-node (a .rules) (a .t .now) (st .pre .0) (a .i) (c .check-node .result) (st .pre .1) (F .passed) (F .stopped (st .pre .1))
-    (c .check-node .ensures ∙ ap checked (read-node (a .rules) (a .t .now) (a .i) _ _ (l .kind-at .ensures) (b .kind-at2 .ensures)))
+    let k = c .before in
+    let b = k .before .before in
+    let a = b .before .before in
+    let r = a .before in
+    let l = r .before in
+    let st = l .before .before .before in
+    c .check-node .ensures
+    ∙ ap checked (read-node (st .args .rules) (st .args .t .now) (st .args .i .0) (k .number-at5 .ensures) (l .number-at .ensures) (r .number-at2 .ensures) (a .number-at3 .ensures) (b .number-at4 .ensures))
 
 pub refused-at-spec : {M : Type 1} → statement M
 refused-at-spec =
     tie.close
     (tie.spec
-    mul-l
-    add-l
-    mul-l-2
-    shared-slice-read-l
-    mul-r
-    add-r
-    mul-r-2
-    shared-slice-read-r
-    kind-at-requires
-    kind-at-requires-2
-    cast-t12
-    mul-check-node
-    mul-check-node-2
-    shared-slice-read-check-node
+    cast-at
+    mul-at
+    add-number-at
+    number-at-requires
+    add-number-at-2
+    number-at-requires-2
+    cast-number-at
+    mul-number-at
+    number-at-requires-3
+    cast-number-at-2
+    mul-number-at-2
+    number-at-requires-4
+    number-at-requires-5
     check-node-requires
     returns)

@@ -16,11 +16,6 @@ use Rattle.rows.proofs.SignalLaw.{known-none}
 use Rattle.rows.proofs.TableLaw.{Told, told-none, told-more, told-root, tells-signal}
 use Rattle.verdict.proofs.fill_rows.Statement.{statement}
 use Rattle.verdict.proofs.fill_rows.Tie as tie
-use Rattle.verdict.proofs.fill_rows.Reads as reads
-use Rattle.verdict.proofs.fill_rows.Lts as lts
-use Rattle.rows.proofs.learn.Reads as learn-reads
-use Rattle.rows.proofs.node_row.Reads as node-row-reads
-use Rattle.verdict.proofs.word.Reads as word-reads
 
 abbrev Inv-loop : tie.InvT-loop
 Inv-loop t lead cycle told₀ n period vars₀ known₀ i₀ told vars known i =
@@ -55,112 +50,81 @@ below u e =
     let I = L .loop .inv in
     operands-below (start L .args .t .now) (start L .pre .0) (L .loop .i) (inside u) e (length (L .loop .told)) (omega (arith, inside u, I .2, start L .pre .2))
 
--- src/lib.rt:135:5
 loop-holds : tie.Need-loop-holds Inv-loop μ-loop
 loop-holds c = (search needs, omega arith, refl, search needs, told-none, known-none)
 
--- src/lib.rt:136:22
 mul-kind : tie.Need-mul-kind Inv-loop μ-loop
 mul-kind c = search needs
 
--- src/lib.rt:136:20
 mul-kind-2 : tie.Need-mul-kind-2 Inv-loop μ-loop
 mul-kind-2 c = search needs
 
--- src/lib.rt:136:20
 shared-slice-read-kind : tie.Need-shared-slice-read-kind Inv-loop μ-loop
 shared-slice-read-kind c = search needs
 
--- src/lib.rt:137:22
 mul-left : tie.Need-mul-left Inv-loop μ-loop
 mul-left c = search needs
 
--- src/lib.rt:137:22
 add-left : tie.Need-add-left Inv-loop μ-loop
 add-left c = search needs
 
--- src/lib.rt:137:20
 mul-left-2 : tie.Need-mul-left-2 Inv-loop μ-loop
 mul-left-2 c = search needs
 
--- src/lib.rt:137:20
 shared-slice-read-left : tie.Need-shared-slice-read-left Inv-loop μ-loop
 shared-slice-read-left c = search needs
 
--- src/lib.rt:138:23
 mul-right : tie.Need-mul-right Inv-loop μ-loop
 mul-right c = search needs
 
--- src/lib.rt:138:23
 add-right : tie.Need-add-right Inv-loop μ-loop
 add-right c = search needs
 
--- src/lib.rt:138:21
 mul-right-2 : tie.Need-mul-right-2 Inv-loop μ-loop
 mul-right-2 c = search needs
 
--- src/lib.rt:138:21
 shared-slice-read-right : tie.Need-shared-slice-read-right Inv-loop μ-loop
 shared-slice-read-right c = search needs
 
--- src/lib.rt:140:46
 slice-aggregate-learn : tie.Need-slice-aggregate-learn Inv-loop μ-loop
 slice-aggregate-learn c = search needs
 
--- src/lib.rt:140:13
 learn-requires : tie.Need-learn-requires Inv-loop μ-loop
-learn-requires c κs =
-    let u = c .before .before in
-    let L = turn u in
-    let I = L .loop .inv in
-    (start L .pre .1, signal-below u (c .before .if1 .taken), omega (arith, I .3), I .5)
+learn-requires c κs = search needs
 
--- src/lib.rt:141:28
 slice-aggregate-word : tie.Need-slice-aggregate-word Inv-loop μ-loop
 slice-aggregate-word c = search needs
 
--- src/lib.rt:141:23
 word-requires : tie.Need-word-requires Inv-loop μ-loop
 word-requires c κs =
     let l = c .before .before in
     let u = l .before .before .before in
     omega (arith, signal-below u (l .before .before .if1 .taken), l .learn .kept .1 .1 .0, turn u .loop .inv .3)
 
--- src/lib.rt:141:13
 mul-told : tie.Need-mul-told Inv-loop μ-loop
 mul-told c = search needs
 
--- src/lib.rt:141:13
 slice-write-told : tie.Need-slice-write-told Inv-loop μ-loop
 slice-write-told c = search needs
 
--- src/lib.rt:143:17
 word-requires-2 : tie.Need-word-requires-2 Inv-loop μ-loop
 word-requires-2 c κs = below (c .before .before) (c .before .if1 .left) .0
 
--- src/lib.rt:144:17
 word-requires-3 : tie.Need-word-requires-3 Inv-loop μ-loop
 word-requires-3 c κs = let e = c .before .before .before in below (e .before) (e .if1 .left) .1
 
--- src/lib.rt:145:23
 node-row-requires : tie.Need-node-row-requires Inv-loop μ-loop
-node-row-requires c κs =
-    let u = c .before .before .before .before .before in
-    omega (arith, start (turn u) .pre .1 .most)
+node-row-requires c κs = search needs
 
--- src/lib.rt:145:13
 mul-told-2 : tie.Need-mul-told-2 Inv-loop μ-loop
 mul-told-2 c = search needs
 
--- src/lib.rt:145:13
 slice-write-told-2 : tie.Need-slice-write-told-2 Inv-loop μ-loop
 slice-write-told-2 c = search needs
 
--- src/lib.rt:147:9
 add-i : tie.Need-add-i Inv-loop μ-loop
 add-i c = search needs
 
--- src/lib.rt:135:5
 loop-less : tie.Need-loop-less Inv-loop μ-loop
 loop-less c = search needs
 
@@ -201,7 +165,7 @@ filled c =
     let few = start L .pre .1 in
     ⊎-elim
     (λ w.
-    let K = w .2 .ensures in
+    let K = w .2 .ensures few (signal-below u (w .0 .taken)) (omega (arith, I .3)) (I .5) in
     let row = subst (λ (x : ℕ). Tells (a .lead .now) (a .cycle .now) x (lvar (leftAt t i))) (sym (w .5 .ensures)) (K .0 .row (leftAt t i) (signal-below u (w .0 .taken)) (K .1)) in
     rw (w .6, w .7, w .8) (simp length-set (I .2), w .2 .kept .1 .1 .0 ∙ I .3, one-more u (w .5 .result) (tells-signal (w .0 .taken) row), K .0))
     (λ w.
@@ -211,18 +175,15 @@ filled c =
     rw (w .6, w .7, w .8) (simp length-set (I .2), I .3, one-more u (w .5 .result) M, I .5))
     (c .if1 .came)
 
--- src/lib.rt:135:5
 loop-again : tie.Need-loop-again Inv-loop μ-loop
 loop-again c =
     let I = turn (c .before) .loop .inv in
     let next = filled c in
     (I .0, omega arith, next .0, next .1, next .2, next .3)
 
--- src/lib.rt:126:1
 same-length : tie.Need-same-length Inv-loop μ-loop
 same-length c = search needs
 
--- src/lib.rt:126:1
 returns : tie.Need-returns Inv-loop μ-loop
 returns c =
     let L = c .before in

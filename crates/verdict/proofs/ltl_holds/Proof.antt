@@ -6,74 +6,56 @@ use Rattle.ltl.specs.Table.{treeOf}
 use Rattle.ltl.proofs.AcceptedLaw.{some-node, most-nodes}
 use Rattle.verdict.proofs.ltl_holds.Statement.{statement}
 use Rattle.verdict.proofs.ltl_holds.Tie as tie
-use Rattle.verdict.proofs.ltl_holds.Reads as reads
-use Rattle.verdict.proofs.ltl_holds.Lts as lts
-use Rattle.rows.proofs.at_first.Reads as at-first-reads
-use Rattle.verdict.proofs.fill_rows.Reads as fill-rows-reads
 
--- src/lib.rt:156:16
 sub-last : tie.Need-sub-last
 sub-last c = let st = c .before .before .before in omega (arith, some-node (st .args .t .now) (st .pre .0))
 
--- src/lib.rt:157:19
 add-letters : tie.Need-add-letters
 add-letters c = search needs
 
--- src/lib.rt:160:35
 slice-aggregate-fill-rows : tie.Need-slice-aggregate-fill-rows
 slice-aggregate-fill-rows c = search needs
 
--- src/lib.rt:160:9
 fill-rows-requires : tie.Need-fill-rows-requires
 fill-rows-requires c κs = search needs
 
--- src/lib.rt:161:31
 mul-at-first : tie.Need-mul-at-first
 mul-at-first c = search needs
 
--- src/lib.rt:161:31
 array-read-at-first : tie.Need-array-read-at-first
 array-read-at-first c = search needs
 
--- src/lib.rt:161:9
 at-first-requires : tie.Need-at-first-requires
 at-first-requires c κs = search needs
 
--- src/lib.rt:161:9
 returns : tie.Need-returns
 returns c =
     let F = c .before .before in
     let st = F .before .before .before .before .before .before in
-    c .at-first .ensures (st .args .lead .now) (st .args .cycle .now) (treeOf (st .args .t .now)) refl (F .fill-rows .ensures)
+    c .at-first .ensures (st .args .lead .now) (st .args .cycle .now) (treeOf (st .args .t .now)) (st .pre .1) refl (F .fill-rows .ensures)
 
--- src/lib.rt:164:31
 slice-aggregate-fill-rows-2 : tie.Need-slice-aggregate-fill-rows-2
 slice-aggregate-fill-rows-2 c = search needs
 
--- src/lib.rt:164:5
 fill-rows-requires-2 : tie.Need-fill-rows-requires-2
 fill-rows-requires-2 c κs = let st = c .before .before .before .before .before in (st .pre .0, st .pre .1, most-nodes (st .args .t .now) (st .pre .0))
 
--- src/lib.rt:165:20
 mul-at-first-2 : tie.Need-mul-at-first-2
 mul-at-first-2 c = search needs
 
--- src/lib.rt:165:20
 array-read-at-first-2 : tie.Need-array-read-at-first-2
 array-read-at-first-2 c =
     let st = c .before .before .before .before .before .before .before in
     omega (arith, some-node (st .args .t .now) (st .pre .0), most-nodes (st .args .t .now) (st .pre .0))
 
--- src/lib.rt:165:5
 at-first-requires-2 : tie.Need-at-first-requires-2
 at-first-requires-2 c κs = search needs
 
--- src/lib.rt:152:1
 returns-2 : tie.Need-returns-2
 returns-2 c =
     let F = c .before .before in
     let st = F .before .before .before .before .before .before in
-    c .at-first2 .ensures (st .args .lead .now) (st .args .cycle .now) (treeOf (st .args .t .now)) refl (F .fill-rows2 .ensures)
+    c .at-first2 .ensures (st .args .lead .now) (st .args .cycle .now) (treeOf (st .args .t .now)) (st .pre .1) refl (F .fill-rows2 .ensures)
 
 pub ltl-holds-spec : {M : Type 1} → statement M
 ltl-holds-spec =

@@ -12,53 +12,37 @@ use Rattle.rows.proofs.RowLaw.{tells-false}
 use Rattle.verdict.proofs.HoldsLaw.{holds-none, holds-some}
 use Rattle.verdict.proofs.psl_holds.Statement.{statement}
 use Rattle.verdict.proofs.psl_holds.Tie as tie
-use Rattle.verdict.proofs.psl_holds.Reads as reads
-use Rattle.verdict.proofs.psl_holds.Lts as lts
-use Rattle.rows.proofs.at_first.Reads as at-first-reads
-use Rattle.verdict.proofs.formula_row.Reads as formula-row-reads
-use Rattle.verdict.proofs.on_empty.Reads as on-empty-reads
-use Rattle.verdict.proofs.signal_rows.Reads as signal-rows-reads
 
--- src/lib.rt:173:24
 sub-t9 : tie.Need-sub-t9
 sub-t9 c = let st = c .before .before .before in omega (arith, some-node (st .args .t .now) (st .pre .0))
 
--- src/lib.rt:173:23
 cast-t10 : tie.Need-cast-t10
 cast-t10 c = let st = c .before .before .before in omega (arith, some-node (st .args .t .now) (st .pre .0), most-nodes (st .args .t .now) (st .pre .0))
 
--- src/lib.rt:174:19
 add-letters : tie.Need-add-letters
 add-letters c = search needs
 
--- src/lib.rt:176:9
 on-empty-requires : tie.Need-on-empty-requires
 on-empty-requires c κs = let st = c .before .before .before .before in let t = st .args .t .now in (st .pre .0, omega (arith, some-node t (st .pre .0)), root-formula t (st .pre .0))
 
--- src/lib.rt:176:9
 returns : tie.Need-returns
 returns c = let th = c .before in let st = th .before .before .before .before in holds-none (st .args .t .now) (st .args .lead .now) (st .args .cycle .now) (th .if1 .taken) (c .on-empty .ensures)
 
--- src/lib.rt:179:33
 slice-aggregate-signal-rows : tie.Need-slice-aggregate-signal-rows
 slice-aggregate-signal-rows c = search needs
 
--- src/lib.rt:179:5
 signal-rows-requires : tie.Need-signal-rows-requires
 signal-rows-requires c κs = search needs
 
--- src/lib.rt:180:20
 formula-row-requires : tie.Need-formula-row-requires
 formula-row-requires c κs =
     let st = c .before .before .before .before .before .before .before .before in
     let t = st .args .t .now in
-    (st .pre .0, omega (arith, some-node t (st .pre .0)), root-formula t (st .pre .0), omega (arith, st .pre .1))
+    (st .pre .0, omega (arith, some-node t (st .pre .0)), root-formula t (st .pre .0))
 
--- src/lib.rt:180:5
 at-first-requires : tie.Need-at-first-requires
 at-first-requires c κs = search needs
 
--- src/lib.rt:169:1
 returns-2 : tie.Need-returns-2
 returns-2 c =
     let F = c .before in
@@ -70,7 +54,7 @@ returns-2 c =
     let m = st .args .cycle .now in
     let few : Few l m = record { some = omega (arith, el .if1 .left); most = omega (arith, st .pre .1) } in
     holds-some t l m (c .at-first .result) few
-    (c .at-first .ensures l m (translated (formulaAt t (count t - 1)) nothing nothing) refl (F .formula-row .ensures l m few refl (s .signal-rows .ensures) nothing nothing (tells-false few) (tells-false few)))
+    (c .at-first .ensures l m (translated (formulaAt t (count t - 1)) nothing nothing) few refl (F .formula-row .ensures l m few refl (s .signal-rows .ensures) nothing nothing (tells-false few) (tells-false few)))
 
 pub psl-holds-spec : {M : Type 1} → statement M
 psl-holds-spec =

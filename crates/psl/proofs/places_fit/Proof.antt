@@ -3,40 +3,35 @@ use borrow.Author.Needs.{needs}
 use mathlib.Core.Path.{_≡_, sym, _∙_}
 use mathlib.Core.Bool.{true}
 use borrow.Author.Tests.{not-true, not-false}
 use Rattle.table.proofs.CheckLaw.{BothLow, not-low, left-in, right-in, low-sorts}
-use Rattle.table.proofs.places_fit.Statement.{statement}
-use Rattle.table.proofs.places_fit.Tie as tie
-use Rattle.table.proofs.places_fit.Reads as reads
-use Rattle.table.proofs.places_fit.Lts as lts
-use Rattle.table.proofs.named_fits.Reads as named-fits-reads
-use Rattle.table.proofs.places_low.Reads as places-low-reads
+use Rattle.psl.proofs.places_fit.Statement.{statement}
+use Rattle.psl.proofs.places_fit.Tie as tie
 
 abbrev start : tie.After-places-low → tie.Start
 start b = b .before .before .before .before
 
+abbrev both : (b : tie.After-places-low) → let a = start b .args in b .places-low .result ≡ BothLow (a .h) (a .i) (a .l) (a .r)
+both b = let st = start b in b .places-low .ensures (st .pre .1) (st .pre .2)
+
 -- Past the test of both bounds.
 low : (e : tie.Else1) → let a = start (e .before) .args in BothLow (a .h) (a .i) (a .l) (a .r) ≡ true
-low e = sym (e .before .places-low .ensures) ∙ not-false _ (e .if1 .left)
+low e = sym (both (e .before)) ∙ not-false _ (e .if1 .left)
 
--- src/lib.rt:174:9
 places-low-requires : tie.Need-places-low-requires
 places-low-requires c κs = search needs
 
--- src/lib.rt:175:9
 returns : tie.Need-returns
 returns c =
     let b = c .before in
     let a = start b .args in
-    not-low (a .h) (a .i) (a .l) (a .r) (a .t .now) (a .booleans) (sym (b .places-low .ensures) ∙ not-true _ (c .if1 .taken))
+    not-low (a .h) (a .i) (a .l) (a .r) (a .t .now) (a .booleans) (sym (both b) ∙ not-true _ (c .if1 .taken))
 
--- src/lib.rt:177:5
 named-fits-requires : tie.Need-named-fits-requires
 named-fits-requires c κs =
     let st = start (c .before) in
     let a = st .args in
     (st .pre .1, left-in (a .h) (a .i) (a .l) (a .r) (a .t .now) (a .booleans) (low c) (st .pre .0))
 
--- src/lib.rt:177:37
 named-fits-requires-2 : tie.Need-named-fits-requires-2
 named-fits-requires-2 c κs =
     let e = c .before in
@@ -44,7 +39,6 @@ named-fits-requires-2 c κs =
     let a = st .args in
     (st .pre .2, right-in (a .h) (a .i) (a .l) (a .r) (a .t .now) (a .booleans) (low e) (st .pre .0))
 
--- src/lib.rt:168:1
 returns-2 : tie.Need-returns-2
 returns-2 c =
     let e = c .before .before in

@@ -1,12 +1,9 @@
--- `kind_at` reads the kind of a node: past the end of the list both are 0.
+-- `number_at` reads a number: past the end of the list both are 0.
 use mathlib.Core.Path.{sym}
 use lib.ListN.{List·getD-eq-default}
 use borrow.Author.Needs.{needs}
-use Rattle.table.proofs.kind_at.Statement.{statement}
-use Rattle.table.proofs.kind_at.Tie as tie
-
-mul-at : tie.Need-mul-at
-mul-at c = search needs
+use Rattle.table.proofs.number_at.Statement.{statement}
+use Rattle.table.proofs.number_at.Tie as tie
 
 mul-result : tie.Need-mul-result
 mul-result c = search needs
@@ -20,5 +17,5 @@ returns c = search needs
 returns-2 : tie.Need-returns-2
 returns-2 c = sym (List·getD-eq-default (c .before .args .t .now) 0 (c .if1 .left))
 
-pub kind-at-spec : {M : Type 1} → statement M
-kind-at-spec = tie.close (tie.spec mul-at mul-result shared-slice-read-result returns returns-2)
+pub number-at-spec : {M : Type 1} → statement M
+number-at-spec = tie.close (tie.spec mul-result shared-slice-read-result returns returns-2)

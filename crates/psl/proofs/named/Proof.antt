@@ -1,7 +1,7 @@
 -- `named` keeps the number of an operand by the mask.
 use Rattle.table.proofs.CheckLaw.{named-is}
-use Rattle.table.proofs.named.Statement.{statement}
-use Rattle.table.proofs.named.Tie as tie
+use Rattle.psl.proofs.named.Statement.{statement}
+use Rattle.psl.proofs.named.Tie as tie
 
 returns : tie.Need-returns
 returns c = let st = c .before in named-is (st .args .p) (st .pre) (st .args .n) (st .fits .n .fits)

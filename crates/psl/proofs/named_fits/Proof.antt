@@ -1,8 +1,8 @@
 -- `named_fits` reads the kind of the operand, or that of node 0, which does not matter.
 use borrow.Author.Needs.{needs}
 use Rattle.table.proofs.CheckLaw.{named-sort}
-use Rattle.table.proofs.named_fits.Statement.{statement}
-use Rattle.table.proofs.named_fits.Tie as tie
+use Rattle.psl.proofs.named_fits.Statement.{statement}
+use Rattle.psl.proofs.named_fits.Tie as tie
 
 named-requires : tie.Need-named-requires
 named-requires c κs = c .before .pre .0
