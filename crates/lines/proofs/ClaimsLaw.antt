@@ -1,20 +1,15 @@
 -- The statements of `Claims`.
-use mathlib.Core.Path.{_≡_, refl, ap, sym, _∙_}
-use mathlib.Core.Bool.{Bool, true, false, not}
-use mathlib.Core.Option.{none}
+use mathlib.Core.Path.{_≡_, ap, sym, _∙_}
 use mathlib.Core.List.{List}
 use Prim.Native.Nat.{ℕ}
-use native.Mathlib.Omega.{arith}
-use borrow.Author.Tests.{leb-true, not-true}
 use lib.ListN.{length}
-use Rattle.table.specs.Node.{Node, numbersOf}
+use Rattle.table.specs.Node.{numbersOf}
 use Rattle.psl.specs.Formula.{Formula}
-use Rattle.psl.specs.Check.{pslRules}
 use Rattle.lines.specs.Claims.{Claims}
-use Rattle.lines.specs.Spelling.{formulaLine, Trace, lineOfTrace, nodeLine}
+use Rattle.lines.specs.Spelling.{formulaLine, Trace, lineOfTrace}
 use Rattle.lines.specs.Closing.{table}
 use Rattle.lines.specs.Limits.{front}
-use Rattle.lines.specs.FormulaAnswer.{largeSignal, formulaLimits, formulaRefusal, FormulaAnswer}
+use Rattle.lines.specs.FormulaAnswer.{formulaRefusal, FormulaAnswer}
 use Rattle.lines.specs.TraceAnswer.{traceRefusal, TraceAnswer}
 use Rattle.lines.specs.declared.formula.Line.{Line}
 use Rattle.lines.specs.declared.formula.Line.the-variants as Line

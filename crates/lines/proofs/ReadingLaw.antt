@@ -1,18 +1,17 @@
 -- Laws of readings, for any way of spelling: where a reader stops is where the line breaks, and a line has one reading.
 use mathlib.Core.Path.{_≡_, refl, ap, sym, subst, _∙_}
 use mathlib.Core.Option.{Option, none, some}
-use mathlib.Core.List.{List, [], _∷_, _++_}
+use mathlib.Core.List.{List, _++_}
 use Prim.Native.Nat.{ℕ, suc, _+_, _≤_, _<_}
 use native.Mathlib.Decide.{decLt}
 use native.Mathlib.Omega.{arith}
 use lib.ListN.{length, take, drop, length-append, length-drop, length-take}
 use lib.Seq.{sets, sets-eq, take-at, take-take, take-all}
 use Rattle.trace.specs.declared.Refusal.{Refusal}
-use Rattle.table.specs.Answer.{refused}
 use Rattle.table.proofs.CheckLaw.{some-none}
 use Rattle.lines.specs.Limits.{mostBytes, front}
 use Rattle.lines.specs.Reading.{Breaks, Reading, long, breaks, spells, lineRefusal, Takes, Refuses}
-use Rattle.lines.specs.Inner.Places.{Language, Halts, StopsLine}
+use Rattle.lines.specs.Inner.Places.{Language, StopsLine}
 
 -- ── Where a line breaks ──
 

@@ -7,7 +7,7 @@ use native.Mathlib.Omega.{arith}
 use native.Mathlib.Numerals.{add-one}
 use borrow.Author.Tests.{ltb-true, ltb-false}
 use lib.Dec.{ltb}
-use lib.ListN.{length, getD, set, take, length-append, List·getD-eq-default}
+use lib.ListN.{length, getD, take, length-append, List·getD-eq-default}
 use lib.Seq.{sets, set-out, length-sets, sets-eq, take-at, take-suc, take-all}
 use Rattle.table.specs.Node.{node}
 use Rattle.table.proofs.KindLaw.{_⨾_, each}

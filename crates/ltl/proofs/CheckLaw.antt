@@ -1,5 +1,5 @@
 -- Laws of the LTL check: no place asks for a Boolean, so that a node of a known kind is refused exactly where a place is not low enough.
-use mathlib.Core.Path.{_≡_, refl, sym, _∙_}
+use mathlib.Core.Path.{_≡_, refl, sym}
 use mathlib.Core.Bool.{Bool, true, false, not, _&&_}
 use mathlib.Core.Option.{none}
 use mathlib.Core.List.{List}

@@ -1,5 +1,5 @@
 -- What is claimed of LTL tables and of the LTL meaning holds.
-use mathlib.Core.Path.{_≡_, sym, _∙_}
+use mathlib.Core.Path.{sym, _∙_}
 use native.Mathlib.Omega.{arith}
 use Rattle.table.proofs.CheckLaw.{table-sized}
 use Rattle.ltl.specs.Check.{ltlRules}

@@ -1,6 +1,6 @@
 -- The clauses of the LTL meaning at their borders.
 use Prim.Native.Nat.{ℕ, zero, suc, _≤_, _<_, _%_}
-use mathlib.Core.Logic.{inl, inr}
+use mathlib.Core.Logic.{inr}
 use mathlib.Core.Option.{some}
 use mathlib.Core.List.{[], _∷_}
 use native.Mathlib.Omega.{arith}

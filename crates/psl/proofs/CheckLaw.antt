@@ -7,11 +7,11 @@ use Prim.Native.Nat.{ℕ, zero, suc, _+_, _*_, _-_, _≤_, _<_}
 use native.Mathlib.Omega.{arith}
 use native.Mathlib.Numerals.{add-one}
 use native.Mathlib.Decide.{ℕ-discrete}
-use lib.Dec.{eqb, leb}
+use lib.Dec.{eqb}
 use lib.ListN.{length, getD, set, length-set, replicate, length-replicate, getD-replicate}
 use lib.Seq.{getD-set-same, getD-set-other}
 use lib.Bits.{bitAnd, bitOr, or-zero-l, or-zero-r}
-use borrow.Author.Tests.{eq-eqb, ne-eqb, eqb-true, leb-true, not-true}
+use borrow.Author.Tests.{eq-eqb, ne-eqb, eqb-true, not-true}
 use Rattle.trace.specs.declared.Refusal.{Refusal}
 use Rattle.table.specs.declared.Place.{Place}
 use Rattle.table.specs.Answer.{refused}

@@ -1,5 +1,5 @@
 -- What is claimed of PSL tables and of the PSL meaning holds.
-use mathlib.Core.Path.{_≡_, sym, _∙_}
+use mathlib.Core.Path.{sym, _∙_}
 use native.Mathlib.Omega.{arith}
 use Rattle.psl.specs.Claims.{Claims}
 use Rattle.psl.proofs.OrderLaw.{extreme}

@@ -1,5 +1,4 @@
 -- What a formula is on the empty trace.
-use mathlib.Core.Path.{_≡_, refl}
 use mathlib.Core.Logic.{inl, inr, _↔_}
 use mathlib.Core.List.{[]}
 use lib.Dec.{T}

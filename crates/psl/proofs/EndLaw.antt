@@ -1,5 +1,5 @@
 -- The ends of a word: at its first letter weak is strong; at its last next fails, and until is its second operand.
-use Prim.Native.Nat.{ℕ, zero, suc, _<_}
+use Prim.Native.Nat.{ℕ, zero, suc}
 use mathlib.Core.Path.{_≡_, ap, subst, sym, fun-ext}
 use mathlib.Core.Logic.{_↔_, inl, inr}
 use native.Mathlib.Omega.{arith}

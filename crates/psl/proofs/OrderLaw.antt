@@ -5,7 +5,7 @@ use mathlib.Core.Path.{_≡_, refl, sym, ap, subst, fun-ext}
 use mathlib.Core.Logic.{_⊎_, inl, inr}
 use mathlib.Core.Bool.{Bool, true, false, cond}
 use native.Mathlib.Omega.{arith}
-use lib.Dec.{T, ltb, ltb→lt, nltb→le}
+use lib.Dec.{ltb, ltb→lt, nltb→le}
 use Rattle.trace.specs.Word.{Slot, over, plain, top, bottom, Word, filled, InWord, suffix, flip, dual, cut}
 use Rattle.trace.proofs.WordLaw.{cut-past}
 use Rattle.psl.specs.Formula.{BoolExpr, Formula, weak, strong, fnot, fand, next, until, abort}

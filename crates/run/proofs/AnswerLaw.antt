@@ -2,10 +2,9 @@
 use mathlib.Core.Path.{_≡_, refl, ap, sym, subst, _∙_}
 use mathlib.Core.Option.{Option, none, some}
 use mathlib.Core.List.{List}
-use Prim.Native.Nat.{ℕ, _+_, _*_, _≤_, _<_}
+use Prim.Native.Nat.{ℕ, _*_, _≤_}
 use native.Mathlib.Omega.{arith}
 use borrow.Author.Tests.{le-leb}
-use lib.Dec.{leb}
 use lib.ListN.{length, take, replicate, length-replicate}
 use Rattle.trace.specs.Letter.{mostLetters}
 use Rattle.trace.specs.Moments.{size}
@@ -17,7 +16,7 @@ use Rattle.table.proofs.CheckLaw.{some-none}
 use Rattle.psl.specs.Formula.{Formula}
 use Rattle.psl.specs.Meaning.{HoldsOn}
 use Rattle.psl.specs.Table.{formulaOf}
-use Rattle.psl.specs.Check.{pslRefusal, pslRules}
+use Rattle.psl.specs.Check.{pslRefusal}
 use Rattle.ltl.specs.Meaning.{LtlHoldsOn}
 use Rattle.ltl.specs.Table.{treeOf}
 use Rattle.ltl.specs.Check.{ltlRefusal}
@@ -27,21 +26,21 @@ use Rattle.translate.specs.declared.Translation.{Translation}
 use Rattle.translate.specs.declared.Translation.the-variants as Translation
 use Rattle.translate.proofs.DeliversLaw.{size-most}
 use Rattle.translate.proofs.EmittedLaw.{emitted-accepted}
-use Rattle.verdict.specs.Verdict.{Judges, PslJudges, LtlJudges, pslVerdictRefusal, ltlVerdictRefusal}
+use Rattle.verdict.specs.Verdict.{Judges, PslJudges, LtlJudges}
 use Rattle.verdict.specs.declared.Verdict.{Verdict}
 use Rattle.verdict.specs.declared.Verdict.the-variants as Verdict
 use Rattle.verdict.proofs.JudgesLaw.{psl-fine, ltl-fine, ltl-empty}
 use Rattle.lines.specs.Spelling.{formulaLine, Trace, lineOfTrace}
 use Rattle.lines.specs.Closing.{table}
 use Rattle.lines.specs.Reading.{Takes, Refuses}
-use Rattle.lines.specs.FormulaAnswer.{formulaLimits, formulaRefusal, FormulaAnswer}
-use Rattle.lines.specs.TraceAnswer.{traceLimits, traceRefusal, TraceAnswer}
+use Rattle.lines.specs.FormulaAnswer.{formulaLimits, FormulaAnswer}
+use Rattle.lines.specs.TraceAnswer.{traceLimits, TraceAnswer}
 use Rattle.lines.specs.declared.formula.Line.the-variants as Line
 use Rattle.lines.specs.declared.traces.TraceLine.the-variants as TraceLine
 use Rattle.lines.proofs.ReadingLaw.{takes-by, refuses-by, front-take, front-length}
 use Rattle.lines.proofs.LimitsLaw.{limits-few, limits-accepted, formula-room, limits-short, trace-room}
 use Rattle.lines.proofs.TableLaw.{table-formula}
-use Rattle.run.specs.Whole.{Tells, Judged, LaterAnswer}
+use Rattle.run.specs.Whole.{Tells, LaterAnswer}
 use Rattle.run.specs.Inner.{TablesOf, Accepted, FirstAnswer}
 use Rattle.run.specs.declared.First.the-variants as First
 use Rattle.run.specs.declared.Later.the-variants as Later

@@ -1,7 +1,7 @@
 -- The statements of `Claims`.
 use mathlib.Core.Path.{_≡_, refl, ap, sym, subst, _∙_}
-use mathlib.Core.Logic.{_⊎_, inl, inr, _↔_}
-use mathlib.Core.List.{List, [], _∷_, _++_, append-cancel-left}
+use mathlib.Core.Logic.{inl, inr, _↔_}
+use mathlib.Core.List.{List, [], _∷_, _++_}
 use Prim.Native.Nat.{ℕ, suc, _<_}
 use native.Mathlib.Omega.{arith}
 use native.Mathlib.Decide.{decLt}
@@ -24,7 +24,7 @@ use Rattle.lines.proofs.TraceLaw.{trace-alone}
 use Rattle.run.specs.Claims.{Claims}
 use Rattle.run.specs.Input.{inputLines}
 use Rattle.run.specs.Printed.{refusedText, verdictText, tableText}
-use Rattle.run.specs.Whole.{Tells, Judged, LaterAnswer, laterText, PrintsTraces, Prints, Runs}
+use Rattle.run.specs.Whole.{Tells, Judged, LaterAnswer, laterText, PrintsTraces, Prints}
 use Rattle.run.specs.declared.Later.{Later}
 use Rattle.run.specs.declared.Later.the-variants as Later
 

@@ -1,5 +1,5 @@
 -- What each writer of an answer's text gives.
-use mathlib.Core.Path.{_≡_, refl, ap, sym, subst}
+use mathlib.Core.Path.{_≡_, sym, subst}
 use mathlib.Core.List.{List, _++_, append-assoc}
 use Prim.Native.Nat.{ℕ, zero, suc, _+_, _*_, _<_, _≤_}
 use native.Mathlib.Omega.{arith}

@@ -1,6 +1,6 @@
 -- What each step of a run keeps of the relation between the input taken, the output and the state.
 use mathlib.Core.Path.{_≡_, refl, ap, sym, subst, _∙_}
-use mathlib.Core.Logic.{_⊎_, inl, inr}
+use mathlib.Core.Logic.{inl, inr}
 use mathlib.Core.Bool.{Bool, true, false}
 use mathlib.Core.List.{List, [], _∷_, _++_, append-assoc, append-nil}
 use Prim.Native.Nat.{ℕ, suc, _+_, _*_, _-_, _<_, _≤_}
@@ -10,20 +10,16 @@ use borrow.Author.Tests.{ltb-true, ltb-false, ne-eqb}
 use lib.Dec.{ltb}
 use lib.ListN.{length, take, length-append, length-take}
 use lib.Seq.{sets-eq, take-at, take-all, take-suc-set, take-append-le, length-take-le}
-use Rattle.trace.specs.declared.Refusal.{Refusal}
 use Rattle.table.specs.Node.{_▸_}
 use Rattle.psl.specs.Formula.{Formula}
 use Rattle.translate.specs.Emitted.{emitted}
-use Rattle.lines.specs.Spelling.{formulaLine}
-use Rattle.lines.specs.Reading.{Takes, Refuses}
-use Rattle.lines.specs.FormulaAnswer.{formulaLimits}
 use Rattle.lines.specs.Inner.Writer.{Wrote}
 use Rattle.lines.proofs.ReadingLaw.{takes-cut, refuses-cut}
 use Rattle.lines.proofs.WriterLaw.{wrote-room, wrote-fits}
 use Rattle.run.specs.Input.{endedAfter, openAfter, endedLines, openLine, inputLines}
-use Rattle.run.specs.Printed.{refusedText, tableText}
+use Rattle.run.specs.Printed.{tableText}
 use Rattle.run.specs.Whole.{LaterAnswer, laterText, PrintsTraces, Prints, Runs}
-use Rattle.run.specs.Inner.{TablesOf, FirstAnswer, keptBytes, Told, Going, At, firstText, Remembers, FirstDone, LaterDone, Keeps}
+use Rattle.run.specs.Inner.{FirstAnswer, keptBytes, Told, Going, At, firstText, Remembers, FirstDone, LaterDone, Keeps}
 use Rattle.run.specs.declared.First.{First}
 use Rattle.run.specs.declared.First.the-variants as First
 use Rattle.run.specs.declared.Later.{Later}

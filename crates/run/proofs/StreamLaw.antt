@@ -17,7 +17,6 @@ use Rattle.verdict.specs.declared.Verdict.{Verdict}
 use Rattle.lines.specs.Inner.Writer.{Wrote}
 use Rattle.run.specs.Printed.{refusedText, traceText, tableText}
 use Rattle.run.specs.Whole.{LaterAnswer, Runs}
-use Rattle.run.specs.Inner as Inner
 use Rattle.run.specs.Inner.{TablesOf, FirstAnswer, Going, At, longest, shortest, mostBlock, Within, Gathered, Remembers, FirstDone, LaterDone, LineDone, Keeps, Fed, Finished, Ends, Advanced, idle, stopped, Turned}
 use Rattle.run.specs.declared.First.{First}
 use Rattle.run.specs.declared.First.the-variants as First

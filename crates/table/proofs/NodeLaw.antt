@@ -1,11 +1,11 @@
 -- Laws of tables of triples: numbers and nodes, the values of nodes, and lists of nodes that grow at their end.
-use Prim.Native.Nat.{ℕ, zero, suc, _+_, _*_, _-_, _/_, _≤_, _<_}
-use mathlib.Core.Path.{_≡_, refl, sym, ap, subst, _∙_}
+use Prim.Native.Nat.{ℕ, zero, suc, _+_, _*_, _-_, _≤_, _<_}
+use mathlib.Core.Path.{_≡_, refl, sym, ap, _∙_}
 use mathlib.Core.List.{List, [], _∷_, _++_}
 use native.Mathlib.Omega.{arith}
 use lib.ListN.{length, getD, take, drop, take-append-drop, length-take, length-append, List·getD-append}
 use lib.Seq.{getD-at}
-use Rattle.table.specs.Node.{Node, node, nodesOf, numbersOf, count, kindAt, leftAt, rightAt, _▸_, last, look, grow, values}
+use Rattle.table.specs.Node.{Node, node, nodesOf, numbersOf, count, kindAt, leftAt, rightAt, _▸_, last, look, grow}
 
 -- ── Numbers and nodes ──
 

@@ -1,17 +1,17 @@
 -- The value of a node of a table that is not refused, by the values of its operands.
-use Prim.Native.Nat.{ℕ, zero, suc, _+_, _*_, _-_, _/_, _≤_, _<_}
-use mathlib.Core.Path.{_≡_, refl, sym, ap, ap₂, subst, _∙_}
+use Prim.Native.Nat.{ℕ, _-_, _<_}
+use mathlib.Core.Path.{_≡_, ap, _∙_}
 use mathlib.Core.Bool.{true}
-use mathlib.Core.List.{List, [], _∷_}
+use mathlib.Core.List.{List, []}
 use mathlib.Core.Option.{none}
 use native.Mathlib.Omega.{arith}
-use lib.ListN.{length, getD, take}
+use lib.ListN.{take}
 use Rattle.table.specs.declared.Place.{Place}
 use Rattle.table.specs.declared.Rules.{Rules}
 use Rattle.table.specs.Node.{Node, node, nodesOf, count, kindAt, leftAt, rightAt, nodeAt, look, grow, root, valueAt}
 use Rattle.table.specs.Check.{shapeOf, tableRefusal}
 use Rattle.table.proofs.NodeLaw.{length-grow, length-nodes, node-at, look-take, value-node}
-use Rattle.table.proofs.CheckLaw.{Sound, table-sound, kind-in, fit-below}
+use Rattle.table.proofs.CheckLaw.{table-sound, kind-in, fit-below}
 
 -- ── Values ──
 

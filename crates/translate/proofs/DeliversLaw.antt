@@ -2,16 +2,16 @@
 use mathlib.Core.Path.{_≡_, refl, sym, ap, subst, _∙_}
 use mathlib.Core.Bool.{Bool, true, false}
 use mathlib.Core.Option.{Option, none, some}
-use mathlib.Core.List.{List, [], _∷_, _++_}
+use mathlib.Core.List.{List, [], _++_}
 use Prim.Native.Nat.{ℕ, zero, suc, _+_, _*_, _-_, _≤_, _<_}
 use native.Mathlib.Omega.{arith}
 use lib.Dec.{leb}
 use lib.ListN.{length, take, drop}
-use lib.Seq.{sets, sets-eq, take-at}
+use lib.Seq.{sets-eq, take-at}
 use borrow.Author.Tests.{le-leb, lt-leb, leb-true}
 use Rattle.trace.specs.declared.Refusal.{Refusal}
 use Rattle.table.specs.Answer.{refused}
-use Rattle.table.specs.Node.{Node, node, _▸_, count, kindAt}
+use Rattle.table.specs.Node.{node, _▸_, count, kindAt}
 use Rattle.table.specs.Check.{unless, orElse, total}
 use Rattle.psl.specs.Formula.{Formula, weigh}
 use Rattle.psl.specs.Table.{formulaOf}
@@ -21,9 +21,8 @@ use Rattle.psl.proofs.PartLaw.{part-root}
 use Rattle.psl.proofs.TreeLaw.{tree-weight, tree-nodes}
 use Rattle.psl.proofs.AcceptedLaw.{most-nodes}
 use Rattle.translate.specs.Emitted.{adds, walk, emitted, emittedSize, mostEmitted}
-use Rattle.translate.specs.Stored.{Stored, Walks}
-use Rattle.translate.specs.Answer.{translateRefusal, answer, left, Delivered, Delivers}
-use Rattle.translate.specs.declared.Translation.{Translation}
+use Rattle.translate.specs.Stored.{Walks}
+use Rattle.translate.specs.Answer.{translateRefusal, answer, Delivered, Delivers}
 use Rattle.translate.specs.declared.Translation.the-variants.{Nodes, Refused}
 use Rattle.translate.proofs.WalkLaw.{length-emitted, size-bound}
 use Rattle.translate.proofs.TranslatesLaw.{translates}

@@ -15,7 +15,7 @@ use Rattle.psl.specs.Formula.{BoolExpr, btrue, var, bnot, band, Formula, weak, 
 use Rattle.psl.specs.Meaning.{sat, Satisfies, Holds}
 use Rattle.psl.proofs.OrderLaw.{extreme}
 use Rattle.psl.proofs.EndLaw.{suffix-zero}
-use Rattle.ltl.specs.Tree.{Ltl, ltrue, lvar, lnot, land, lor, lnext, luntil}
+use Rattle.ltl.specs.Tree.{Ltl, lnot, land, lor, lnext, luntil}
 use Rattle.ltl.specs.Meaning.{LtlHolds}
 use Rattle.translate.specs.Translation.{treeB, translated}
 use Rattle.translate.proofs.MarkedLaw.{Test, mark, onward, marked, tail, View, accept, reject, pending, view, widen, abort-wide}

@@ -2,12 +2,12 @@
 use Prim.Native.Nat.{ℕ, zero, suc, _+_, _<_}
 use mathlib.Core.Path.{_≡_, refl, sym, ap, subst, fun-ext, _∙_}
 use mathlib.Core.Logic.{_↔_}
-use mathlib.Core.Bool.{Bool, false}
+use mathlib.Core.Bool.{false}
 use mathlib.Core.Option.{Option, none, some}
 use mathlib.Core.List.{List}
 use native.Mathlib.Omega.{arith}
 use native.Mathlib.Nat.{add-zero, zero-add}
-use Rattle.trace.specs.Moments.{Trace, letterAt, size, has, InTrace}
+use Rattle.trace.specs.Moments.{Trace, letterAt, size, has}
 use Rattle.trace.specs.Word.{Word, slotOf, wordOf}
 use Rattle.trace.proofs.MomentsLaw.{Gapless, gapless, inside-before, letter-of, starts, searchable}
 use Rattle.psl.specs.Formula.{Formula}

@@ -1,10 +1,10 @@
 -- The emitted table, read back, is the translation; and how long it is.
-use Prim.Native.Nat.{ℕ, zero, suc, _+_, _-_, _*_, _≤_, _<_}
-use mathlib.Core.Path.{_≡_, refl, sym, ap, ap₂, _∙_}
+use Prim.Native.Nat.{ℕ, _+_, _-_, _*_, _≤_}
+use mathlib.Core.Path.{_≡_, refl, ap, ap₂, _∙_}
 use mathlib.Core.List.{List, [], _∷_}
 use native.Mathlib.Omega.{arith}
-use lib.ListN.{length, getD}
-use Rattle.table.specs.Node.{Node, numbersOf, _▸_, last, look, grow, values}
+use lib.ListN.{length}
+use Rattle.table.specs.Node.{Node, _▸_, last, look, grow}
 use Rattle.table.proofs.NodeLaw.{nodes-numbers, length-numbers, length-more, length-grow, Named, Grown, grown-one, grown-join}
 use Rattle.psl.specs.Formula.{BoolExpr, btrue, var, bnot, band, Formula, weak, strong, fnot, fand, next, until, abort, weighB, weigh, nodeCount}
 use Rattle.ltl.specs.Tree.{Ltl, ltrue, lvar, lnot, land, lor, lnext, luntil}

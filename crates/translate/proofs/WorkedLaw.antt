@@ -1,6 +1,6 @@
 -- The worked run is as the paper prints it.
 use Prim.Native.Nat.{ℕ, zero, suc}
-use mathlib.Core.Path.{_≡_, refl}
+use mathlib.Core.Path.{refl}
 use mathlib.Core.Logic.{inl, inr}
 use mathlib.Core.List.{[], _∷_}
 use Rattle.trace.specs.Letter.{bit}

@@ -1,6 +1,5 @@
 -- The place stays within the text.
 use borrow.Author.Needs.{needs}
-use mathlib.Core.Path.{_≡_}
 use Prim.Native.Nat.{_≤_, _-_}
 use lib.ListN.{length}
 use Rattle.line_cases.proofs.line_end.Statement.{statement}

@@ -12,52 +12,40 @@ use Rattle.psl.specs.Check.{pslRules}
 use Rattle.psl.proofs.CheckLaw.{untallied, psl-first}
 use Rattle.psl.proofs.check_psl.Statement.{statement}
 use Rattle.psl.proofs.check_psl.Tie as tie
-use Rattle.psl.proofs.check_psl.Reads as reads
-use Rattle.psl.proofs.check_psl.Lts as lts
-use Rattle.psl.proofs.check_nodes.Reads as check-nodes-reads
-use Rattle.table.proofs.length_fits.Reads as length-fits-reads
 
 -- Past the test of the length.
 right-length : (e : tie.Else1) → lengthFits (pslRules .most) (length (e .before .before .before .args .t .now)) ≡ true
 right-length e = sym (e .before .length-fits .ensures .0) ∙ not-false _ (e .if1 .left)
 
--- src/lib.rt:139:9
 length-fits-requires : tie.Need-length-fits-requires
 length-fits-requires c κs = search needs
 
--- src/lib.rt:140:9
 returns : tie.Need-returns
 returns c =
     let f = c .before in
     let t = f .before .before .args .t .now in
     sym (ap checked (psl-first t _ (refused-length pslRules t (sym (f .length-fits .ensures .0) ∙ not-true (f .length-fits .result) (c .if1 .taken)))))
 
--- src/lib.rt:144:24
 slice-aggregate-check-nodes : tie.Need-slice-aggregate-check-nodes
 slice-aggregate-check-nodes c = search needs
 
--- src/lib.rt:144:9
 check-nodes-requires : tie.Need-check-nodes-requires
 check-nodes-requires c κs =
     let e = c .before .before in
     untallied (e .before .before .before .args .t .now) 128 (right-length e) (omega arith)
 
--- src/lib.rt:147:24
 slice-aggregate-check-nodes-2 : tie.Need-slice-aggregate-check-nodes-2
 slice-aggregate-check-nodes-2 c = search needs
 
--- src/lib.rt:147:9
 check-nodes-requires-2 : tie.Need-check-nodes-requires-2
 check-nodes-requires-2 c κs =
     let e = c .before .before in
     let t = e .before .before .before .args .t .now in
     untallied t 1024 (right-length e) (sized pslRules t (right-length e) .low)
 
--- src/lib.rt:136:1
 returns-2 : tie.Need-returns-2
 returns-2 c = search needs
 
--- src/lib.rt:136:1
 returns-3 : tie.Need-returns-3
 returns-3 c = search needs
 

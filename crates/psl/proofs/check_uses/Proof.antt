@@ -12,8 +12,6 @@ use Rattle.psl.specs.Check.{pslRules, useRefusal}
 use Rattle.psl.proofs.CheckLaw.{in-counts, used-once, misused, uses-refused, root-refused, root-fine}
 use Rattle.psl.proofs.check_uses.Statement.{statement}
 use Rattle.psl.proofs.check_uses.Tie as tie
-use Rattle.psl.proofs.check_uses.Reads as reads
-use Rattle.psl.proofs.check_uses.Lts as lts
 
 abbrev Inv-loop : tie.InvT-loop
 Inv-loop t c last j₀ j = (j ≤ last) × (lowest (useRefusal t) j ≡ none)
@@ -27,63 +25,50 @@ start lp = lp .before
 few : (st : tie.Start Inv-loop μ-loop) → Sized pslRules (st .args .t .now)
 few st = sized pslRules _ (st .pre .right-length)
 
--- src/lib.rt:109:16
 sub-last : tie.Need-sub-last Inv-loop μ-loop
 sub-last c = omega (arith, few c .some)
 
--- src/lib.rt:111:5
 loop-holds : tie.Need-loop-holds Inv-loop μ-loop
 loop-holds c = (omega arith, lowest-zero _)
 
--- src/lib.rt:112:12
 mul-if1 : tie.Need-mul-if1 Inv-loop μ-loop
 mul-if1 c = omega (arith, few (start (c .before)) .low)
 
--- src/lib.rt:112:12
 shared-slice-read-if1 : tie.Need-shared-slice-read-if1 Inv-loop μ-loop
 shared-slice-read-if1 c = let lp = c .before .before in in-counts (start lp .pre) (lp .loop .j) (omega (arith, few (start lp) .some))
 
--- src/lib.rt:113:13
 returns : tie.Need-returns Inv-loop μ-loop
 returns c =
     let lp = c .before .before .before in
     let st = start lp in
     sym (ap checked (uses-refused _ (lp .loop .j) (omega arith) (lp .loop .inv .1) (misused (st .pre) (lp .loop .j) (omega (arith, few st .some)) (c .if1 .taken))))
 
--- src/lib.rt:115:9
 add-j : tie.Need-add-j Inv-loop μ-loop
 add-j c = search needs
 
--- src/lib.rt:111:5
 loop-less : tie.Need-loop-less Inv-loop μ-loop
 loop-less c = search needs
 
--- src/lib.rt:111:5
 loop-again : tie.Need-loop-again Inv-loop μ-loop
 loop-again c =
     let lp = c .before .before .before in
     let st = start lp in
     (omega arith, lowest-next (useRefusal _) (lp .loop .j) (lp .loop .inv .1) (used-once (st .pre) (lp .loop .j) (omega (arith, few st .some)) (c .if1 .left)))
 
--- src/lib.rt:117:10
 mul-if2 : tie.Need-mul-if2 Inv-loop μ-loop
 mul-if2 c = search needs
 
--- src/lib.rt:117:8
 mul-if2-2 : tie.Need-mul-if2-2 Inv-loop μ-loop
 mul-if2-2 c = search needs
 
--- src/lib.rt:117:8
 shared-slice-read-if2 : tie.Need-shared-slice-read-if2 Inv-loop μ-loop
 shared-slice-read-if2 c = omega (arith, few (start (c .before .before)) .some)
 
--- src/lib.rt:118:9
 returns-2 : tie.Need-returns-2 Inv-loop μ-loop
 returns-2 c =
     let lp = c .before .before .before .before in
     sym (ap checked (root-refused _ (lp .loop .j) (omega arith) (lp .loop .inv .1) (lt-ltb _ 4 (c .if2 .taken))))
 
--- src/lib.rt:105:1
 returns-3 : tie.Need-returns-3 Inv-loop μ-loop
 returns-3 c =
     let lp = c .before .before .before .before in

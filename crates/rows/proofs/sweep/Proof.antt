@@ -1,6 +1,6 @@
 -- The carries of a sum are the until step.
 use borrow.Author.Needs.{needs}
-use mathlib.Core.Path.{_≡_, sym, ap, subst, _∙_}
+use mathlib.Core.Path.{sym, ap, subst, _∙_}
 use Prim.Native.Nat.{ℕ, _+_, _-_, _%_, _^_}
 use lib.Bits.{bitAnd, bitOr}
 use Rattle.trace.specs.Letter.{bit, mostLetters}
@@ -8,19 +8,13 @@ use Rattle.rows.specs.Rows.{Swept}
 use Rattle.rows.proofs.CarryLaw.{swept}
 use Rattle.rows.proofs.sweep.Statement.{statement}
 use Rattle.rows.proofs.sweep.Tie as tie
-use Rattle.rows.proofs.sweep.Reads as reads
-use Rattle.rows.proofs.sweep.Lts as lts
-use Rattle.std.proofs.num.wrapping_add_u64.Reads as wrapping-add-u64-reads
 
--- src/lib.rt:85:32
 wrapping-add-u64-requires : tie.Need-wrapping-add-u64-requires
 wrapping-add-u64-requires c κs = search needs
 
--- src/lib.rt:85:9
 wrapping-add-u64-requires-2 : tie.Need-wrapping-add-u64-requires-2
 wrapping-add-u64-requires-2 c κs = search needs
 
--- src/lib.rt:82:1
 returns : tie.Need-returns
 returns c =
     let A = c .before in

@@ -34,111 +34,84 @@ walk-boolean-below t =
 abbrev claims : ℕ → walk-boolean-lts.Claims
 claims t = (append-reads.Asked, append-reads.Learnt, walk-boolean-below t, walk-boolean.Post)
 
--- src/lib.rt:41:19
 walk-boolean-cast-at : (t : ℕ) → walk-boolean-lts.Need-cast-at (claims t) (walk-boolean-at t) walk-boolean.Post
 walk-boolean-cast-at t c = search needs
 
--- src/lib.rt:41:14
 walk-boolean-mul-at : (t : ℕ) → walk-boolean-lts.Need-mul-at (claims t) (walk-boolean-at t) walk-boolean.Post
 walk-boolean-mul-at t c = search needs
 
--- src/lib.rt:42:16
 walk-boolean-mul-kind : (t : ℕ) → walk-boolean-lts.Need-mul-kind (claims t) (walk-boolean-at t) walk-boolean.Post
 walk-boolean-mul-kind t c = search needs
 
--- src/lib.rt:42:16
 walk-boolean-shared-slice-read-kind : (t : ℕ) → walk-boolean-lts.Need-shared-slice-read-kind (claims t) (walk-boolean-at t) walk-boolean.Post
 walk-boolean-shared-slice-read-kind t c = search needs
 
--- src/lib.rt:43:18
 walk-boolean-add-left : (t : ℕ) → walk-boolean-lts.Need-add-left (claims t) (walk-boolean-at t) walk-boolean.Post
 walk-boolean-add-left t c = search needs
 
--- src/lib.rt:43:16
 walk-boolean-mul-left : (t : ℕ) → walk-boolean-lts.Need-mul-left (claims t) (walk-boolean-at t) walk-boolean.Post
 walk-boolean-mul-left t c = search needs
 
--- src/lib.rt:43:16
 walk-boolean-shared-slice-read-left : (t : ℕ) → walk-boolean-lts.Need-shared-slice-read-left (claims t) (walk-boolean-at t) walk-boolean.Post
 walk-boolean-shared-slice-read-left t c = search needs
 
--- src/lib.rt:44:19
 walk-boolean-add-right : (t : ℕ) → walk-boolean-lts.Need-add-right (claims t) (walk-boolean-at t) walk-boolean.Post
 walk-boolean-add-right t c = search needs
 
--- src/lib.rt:44:17
 walk-boolean-mul-right : (t : ℕ) → walk-boolean-lts.Need-mul-right (claims t) (walk-boolean-at t) walk-boolean.Post
 walk-boolean-mul-right t c = search needs
 
--- src/lib.rt:44:17
 walk-boolean-shared-slice-read-right : (t : ℕ) → walk-boolean-lts.Need-shared-slice-read-right (claims t) (walk-boolean-at t) walk-boolean.Post
 walk-boolean-shared-slice-read-right t c = search needs
 
--- src/lib.rt:46:9
 walk-boolean-append-requires : (t : ℕ) → walk-boolean-lts.Need-append-requires (claims t) (walk-boolean-at t) walk-boolean.Post
 walk-boolean-append-requires t c κs = let S = c .before .before in let st = S .before .before .before .before .before .before in let T = st .args .t .now in let i = st .args .i .0 in let P = st .pre .1 in let w = weight-true (is-true T (P .0) i (P .1) (c .before .if1 .taken)) in record { space = omega (arith, w, P .3 .space); fits = omega (arith, w, P .3 .fits) }
 
--- src/lib.rt:46:9
 walk-boolean-same-length : (t : ℕ) → walk-boolean-lts.Need-same-length (claims t) (walk-boolean-at t) walk-boolean.Post
 walk-boolean-same-length t c = search needs
 
--- src/lib.rt:46:9
 walk-boolean-returns : (t : ℕ) → walk-boolean-lts.Need-returns (claims t) (walk-boolean-at t) walk-boolean.Post
 walk-boolean-returns t c = let A = c .before .before in let th = A .before .before in let S = th .before in let st = S .before .before .before .before .before .before in let T = st .args .t .now in let i = st .args .i .0 in let P = st .pre .1 in arm-true (is-true T (P .0) i (P .1) (th .if1 .taken)) (A .append .ensures)
 
--- src/lib.rt:49:9
 walk-boolean-append-requires-2 : (t : ℕ) → walk-boolean-lts.Need-append-requires-2 (claims t) (walk-boolean-at t) walk-boolean.Post
 walk-boolean-append-requires-2 t c κs = let th = c .before in let S = th .before .before in let st = S .before .before .before .before .before .before in let T = st .args .t .now in let i = st .args .i .0 in let P = st .pre .1 in let w = weight-var (is-var T (P .0) i (P .1) (th .if2 .taken) .1) in record { space = omega (arith, w, P .3 .space); fits = omega (arith, w, P .3 .fits) }
 
--- src/lib.rt:49:9
 walk-boolean-same-length-2 : (t : ℕ) → walk-boolean-lts.Need-same-length-2 (claims t) (walk-boolean-at t) walk-boolean.Post
 walk-boolean-same-length-2 t c = search needs
 
--- src/lib.rt:49:9
 walk-boolean-returns-2 : (t : ℕ) → walk-boolean-lts.Need-returns-2 (claims t) (walk-boolean-at t) walk-boolean.Post
 walk-boolean-returns-2 t c = let A = c .before .before in let th = A .before .before in let S = th .before .before in let st = S .before .before .before .before .before .before in let T = st .args .t .now in let i = st .args .i .0 in let P = st .pre .1 in arm-var (is-var T (P .0) i (P .1) (th .if2 .taken) .1) (A .append2 .ensures)
 
--- src/lib.rt:51:9
 walk-boolean-walk-boolean-requires : (t : ℕ) → walk-boolean-lts.Need-walk-boolean-requires (claims t) (walk-boolean-at t) walk-boolean.Post
 walk-boolean-walk-boolean-requires t c κs = let E = c .before in let S = E .before .before in let st = S .before .before .before .before .before .before in let T = st .args .t .now in let i = st .args .i .0 in let P = st .pre .1 in let L = left-boolean T (P .0) i (P .1) (E .before .if1 .left) (E .if2 .left) (P .2) in (omega (arith, L .0 .0, st .pre .0), (P .0, omega (arith, L .0 .0, P .1), L .0 .1, record { space = omega (arith, L .1, P .3 .space); fits = omega (arith, L .1, P .3 .fits) }))
 
--- src/lib.rt:53:34
 walk-boolean-sub-append : (t : ℕ) → walk-boolean-lts.Need-sub-append (claims t) (walk-boolean-at t) walk-boolean.Post
 walk-boolean-sub-append t c = let th = c .before .before in let W = th .before .before .before in let E = W .before .before in let S = E .before .before in let st = S .before .before .before .before .before .before in let T = st .args .t .now in let i = st .args .i .0 in let P = st .pre .1 in let L = left-boolean T (P .0) i (P .1) (E .before .if1 .left) (E .if2 .left) (P .2) in let pos = weightB-pos (booleanAt T (leftAt T i)) in omega (arith, W .walk-boolean .ensures .next, pos)
 
--- src/lib.rt:53:9
 walk-boolean-append-requires-3 : (t : ℕ) → walk-boolean-lts.Need-append-requires-3 (claims t) (walk-boolean-at t) walk-boolean.Post
 walk-boolean-append-requires-3 t c κs = let th = c .before .before in let W = th .before .before .before in let E = W .before .before in let S = E .before .before in let st = S .before .before .before .before .before .before in let T = st .args .t .now in let i = st .args .i .0 in let P = st .pre .1 in let L = left-boolean T (P .0) i (P .1) (E .before .if1 .left) (E .if2 .left) (P .2) in let pos = weightB-pos (booleanAt T (leftAt T i)) in let w = weight-bnot (is-bnot T (P .0) i (P .1) (th .if3 .taken) .1) in record { space = omega (arith, w, P .3 .space, W .walk-boolean .ensures .next); fits = omega (arith, w, P .3 .fits, W .walk-boolean .ensures .next) }
 
--- src/lib.rt:53:9
 walk-boolean-same-length-3 : (t : ℕ) → walk-boolean-lts.Need-same-length-3 (claims t) (walk-boolean-at t) walk-boolean.Post
 walk-boolean-same-length-3 t c = search needs
 
--- src/lib.rt:53:9
 walk-boolean-returns-3 : (t : ℕ) → walk-boolean-lts.Need-returns-3 (claims t) (walk-boolean-at t) walk-boolean.Post
 walk-boolean-returns-3 t c = let A = c .before .before in let th = A .before .before .before in let W = th .before .before .before in let E = W .before .before in let S = E .before .before in let st = S .before .before .before .before .before .before in let T = st .args .t .now in let i = st .args .i .0 in let P = st .pre .1 in let L = left-boolean T (P .0) i (P .1) (E .before .if1 .left) (E .if2 .left) (P .2) in let pos = weightB-pos (booleanAt T (leftAt T i)) in arm-bnot (is-bnot T (P .0) i (P .1) (th .if3 .taken) .1) (W .walk-boolean .ensures) (A .append3 .ensures)
 
--- src/lib.rt:55:9
 walk-boolean-walk-boolean-requires-2 : (t : ℕ) → walk-boolean-lts.Need-walk-boolean-requires-2 (claims t) (walk-boolean-at t) walk-boolean.Post
 walk-boolean-walk-boolean-requires-2 t c κs = let th = c .before in let W = th .before .before .before in let E = W .before .before in let S = E .before .before in let st = S .before .before .before .before .before .before in let T = st .args .t .now in let i = st .args .i .0 in let P = st .pre .1 in let L = left-boolean T (P .0) i (P .1) (E .before .if1 .left) (E .if2 .left) (P .2) in let pos = weightB-pos (booleanAt T (leftAt T i)) in let k3 : kindAt T i ≡ 3 = omega (arith, E .before .if1 .left, E .if2 .left, th .if3 .left, P .2) in let B = is-band T (P .0) i (P .1) k3 in let w = weight-band (B .2) in let pos2 = weightB-pos (booleanAt T (rightAt T i)) in (omega (arith, B .1 .0, st .pre .0), (P .0, omega (arith, B .1 .0, P .1), B .1 .1, record { space = omega (arith, w, P .3 .space, W .walk-boolean .ensures .next); fits = omega (arith, w, P .3 .fits, W .walk-boolean .ensures .next) }))
 
--- src/lib.rt:56:23
 walk-boolean-sub-append-2 : (t : ℕ) → walk-boolean-lts.Need-sub-append-2 (claims t) (walk-boolean-at t) walk-boolean.Post
 walk-boolean-sub-append-2 t c = let W2 = c .before .before .before .before in let th = W2 .before .before in let W = th .before .before .before in let E = W .before .before in let S = E .before .before in let st = S .before .before .before .before .before .before in let T = st .args .t .now in let i = st .args .i .0 in let P = st .pre .1 in let L = left-boolean T (P .0) i (P .1) (E .before .if1 .left) (E .if2 .left) (P .2) in let pos = weightB-pos (booleanAt T (leftAt T i)) in let k3 : kindAt T i ≡ 3 = omega (arith, E .before .if1 .left, E .if2 .left, th .if3 .left, P .2) in let B = is-band T (P .0) i (P .1) k3 in let w = weight-band (B .2) in let pos2 = weightB-pos (booleanAt T (rightAt T i)) in omega (arith, W .walk-boolean .ensures .next, pos)
 
--- src/lib.rt:56:32
 walk-boolean-sub-append-3 : (t : ℕ) → walk-boolean-lts.Need-sub-append-3 (claims t) (walk-boolean-at t) walk-boolean.Post
 walk-boolean-sub-append-3 t c = let W2 = c .before .before .before .before .before in let th = W2 .before .before in let W = th .before .before .before in let E = W .before .before in let S = E .before .before in let st = S .before .before .before .before .before .before in let T = st .args .t .now in let i = st .args .i .0 in let P = st .pre .1 in let L = left-boolean T (P .0) i (P .1) (E .before .if1 .left) (E .if2 .left) (P .2) in let pos = weightB-pos (booleanAt T (leftAt T i)) in let k3 : kindAt T i ≡ 3 = omega (arith, E .before .if1 .left, E .if2 .left, th .if3 .left, P .2) in let B = is-band T (P .0) i (P .1) k3 in let w = weight-band (B .2) in let pos2 = weightB-pos (booleanAt T (rightAt T i)) in omega (arith, W2 .walk-boolean2 .ensures .next, pos2)
 
--- src/lib.rt:56:5
 walk-boolean-append-requires-4 : (t : ℕ) → walk-boolean-lts.Need-append-requires-4 (claims t) (walk-boolean-at t) walk-boolean.Post
 walk-boolean-append-requires-4 t c κs = let W2 = c .before .before .before .before .before in let th = W2 .before .before in let W = th .before .before .before in let E = W .before .before in let S = E .before .before in let st = S .before .before .before .before .before .before in let T = st .args .t .now in let i = st .args .i .0 in let P = st .pre .1 in let L = left-boolean T (P .0) i (P .1) (E .before .if1 .left) (E .if2 .left) (P .2) in let pos = weightB-pos (booleanAt T (leftAt T i)) in let k3 : kindAt T i ≡ 3 = omega (arith, E .before .if1 .left, E .if2 .left, th .if3 .left, P .2) in let B = is-band T (P .0) i (P .1) k3 in let w = weight-band (B .2) in let pos2 = weightB-pos (booleanAt T (rightAt T i)) in record { space = omega (arith, w, P .3 .space, W .walk-boolean .ensures .next, W2 .walk-boolean2 .ensures .next); fits = omega (arith, w, P .3 .fits, W .walk-boolean .ensures .next, W2 .walk-boolean2 .ensures .next) }
 
--- src/lib.rt:37:1
 walk-boolean-same-length-4 : (t : ℕ) → walk-boolean-lts.Need-same-length-4 (claims t) (walk-boolean-at t) walk-boolean.Post
 walk-boolean-same-length-4 t c = search needs
 
--- src/lib.rt:37:1
 walk-boolean-returns-4 : (t : ℕ) → walk-boolean-lts.Need-returns-4 (claims t) (walk-boolean-at t) walk-boolean.Post
 walk-boolean-returns-4 t c = let A = c .before .before in let W2 = A .before .before .before .before .before .before in let th = W2 .before .before in let W = th .before .before .before in let E = W .before .before in let S = E .before .before in let st = S .before .before .before .before .before .before in let T = st .args .t .now in let i = st .args .i .0 in let P = st .pre .1 in let L = left-boolean T (P .0) i (P .1) (E .before .if1 .left) (E .if2 .left) (P .2) in let pos = weightB-pos (booleanAt T (leftAt T i)) in let k3 : kindAt T i ≡ 3 = omega (arith, E .before .if1 .left, E .if2 .left, th .if3 .left, P .2) in let B = is-band T (P .0) i (P .1) k3 in let w = weight-band (B .2) in let pos2 = weightB-pos (booleanAt T (rightAt T i)) in arm-band (B .2) (W .walk-boolean .ensures) (W2 .walk-boolean2 .ensures) (A .append4 .ensures)
 

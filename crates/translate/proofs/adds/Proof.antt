@@ -4,30 +4,23 @@ use Rattle.translate.specs.Emitted.{adds}
 use Rattle.translate.proofs.DeliversLaw.{adds-rest}
 use Rattle.translate.proofs.adds.Statement.{statement}
 use Rattle.translate.proofs.adds.Tie as tie
-use Rattle.translate.proofs.adds.Reads as reads
-use Rattle.translate.proofs.adds.Lts as lts
 
--- src/lib.rt:117:1
 returns : tie.Need-returns
 unfolding adds
 returns c = (rw (c .match .keys1), search needs)
 
--- src/lib.rt:117:1
 returns-2 : tie.Need-returns-2
 unfolding adds
 returns-2 c = (rw (c .match .keys2), search needs)
 
--- src/lib.rt:117:1
 returns-3 : tie.Need-returns-3
 unfolding adds
 returns-3 c = (rw (c .match .keys3), search needs)
 
--- src/lib.rt:117:1
 returns-4 : tie.Need-returns-4
 unfolding adds
 returns-4 c = (rw (c .match .keys4), search needs)
 
--- src/lib.rt:117:1
 returns-5 : tie.Need-returns-5
 returns-5 c = let R = c .match .rest in (adds-rest (c .before .args .kind) (R .0 .0 .0 .1) (R .0 .0 .1) (R .0 .1) (R .1), search needs)
 

@@ -5,36 +5,25 @@ use Rattle.translate.proofs.DeliversLaw.{size-of, size-most, emits}
 use borrow.Author.Needs.{needs}
 use Rattle.translate.proofs.emit.Statement.{statement}
 use Rattle.translate.proofs.emit.Tie as tie
-use Rattle.translate.proofs.emit.Reads as reads
-use Rattle.translate.proofs.emit.Lts as lts
-use Rattle.translate.proofs.append.Reads as append-reads
-use Rattle.translate.proofs.walk.Reads as walk-reads
 
--- src/lib.rt:149:24
 sub-t8 : tie.Need-sub-t8
 sub-t8 c = let st = c .before .before in let t = st .args .t .now in let e = st .pre .0 in omega (arith, some-node t e)
 
--- src/lib.rt:149:23
 cast-t9 : tie.Need-cast-t9
 cast-t9 c = let st = c .before .before in let t = st .args .t .now in let e = st .pre .0 in omega (arith, some-node t e, most-nodes t e)
 
--- src/lib.rt:150:9
 append-requires : tie.Need-append-requires
 append-requires c κs = search needs
 
--- src/lib.rt:151:9
 append-requires-2 : tie.Need-append-requires-2
 append-requires-2 c κs = search needs
 
--- src/lib.rt:152:5
 walk-requires : tie.Need-walk-requires
 walk-requires c κs = let B = c .before .before .before in let A = B .before .before .before .before in let st = A .before .before .before .before in let t = st .args .t .now in let e = st .pre .0 in (e, omega (arith, some-node t e), root-formula t e, record { space = omega (arith, size-of t, st .pre .1, A .append .ensures .next, B .append2 .ensures .next); fits = omega (arith, size-of t, size-most t e, A .append .ensures .next, B .append2 .ensures .next) })
 
--- src/lib.rt:145:1
 same-length : tie.Need-same-length
 same-length c = search needs
 
--- src/lib.rt:145:1
 returns : tie.Need-returns
 returns c = let W = c .before .before in let B = W .before .before .before .before in let A = B .before .before .before .before in let st = A .before .before .before .before in let t = st .args .t .now in emits t (st .pre .1) (A .append .ensures) (B .append2 .ensures) (W .walk .ensures)
 

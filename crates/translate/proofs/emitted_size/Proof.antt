@@ -8,9 +8,6 @@ use Rattle.psl.proofs.AcceptedLaw.{most-nodes}
 use Rattle.translate.proofs.DeliversLaw.{SizeSoFar, size-next, size-last}
 use Rattle.translate.proofs.emitted_size.Statement.{statement}
 use Rattle.translate.proofs.emitted_size.Tie as tie
-use Rattle.translate.proofs.emitted_size.Reads as reads
-use Rattle.translate.proofs.emitted_size.Lts as lts
-use Rattle.translate.proofs.adds.Reads as adds-reads
 
 abbrev Inv-loop : tie.InvT-loop
 Inv-loop t n s₀ i₀ s i = SizeSoFar t n s i
@@ -18,44 +15,34 @@ Inv-loop t n s₀ i₀ s i = SizeSoFar t n s i
 abbrev μ-loop : tie.MeasureT-loop
 μ-loop t n s₀ i₀ s i = n - i
 
--- src/lib.rt:137:5
 loop-holds : tie.Need-loop-holds Inv-loop μ-loop
 unfolding total
 loop-holds c = record { nodes = refl; within = omega arith; sum = refl; low = omega arith }
 
--- src/lib.rt:138:21
 mul-adds : tie.Need-mul-adds Inv-loop μ-loop
 mul-adds c = search needs
 
--- src/lib.rt:138:19
 mul-adds-2 : tie.Need-mul-adds-2 Inv-loop μ-loop
 mul-adds-2 c = search needs
 
--- src/lib.rt:138:19
 shared-slice-read-adds : tie.Need-shared-slice-read-adds Inv-loop μ-loop
 shared-slice-read-adds c = search needs
 
--- src/lib.rt:138:14
 adds-requires : tie.Need-adds-requires Inv-loop μ-loop
 adds-requires c κs = search needs
 
--- src/lib.rt:138:9
 add-s : tie.Need-add-s Inv-loop μ-loop
 add-s c = let L = c .before .before .before in let st = L .before .before in omega (arith, L .loop .inv .low, L .loop .inv .within, L .loop .inv .nodes, most-nodes (st .args .t .now) (st .pre), c .adds .ensures .1)
 
--- src/lib.rt:139:9
 add-i : tie.Need-add-i Inv-loop μ-loop
 add-i c = search needs
 
--- src/lib.rt:137:5
 loop-less : tie.Need-loop-less Inv-loop μ-loop
 loop-less c = search needs
 
--- src/lib.rt:137:5
 loop-again : tie.Need-loop-again Inv-loop μ-loop
 loop-again c = let L = c .before .before .before in size-next (c .adds .result) (omega arith) (c .adds .ensures .0) (c .adds .ensures .1) (L .loop .inv)
 
--- src/lib.rt:130:1
 returns : tie.Need-returns Inv-loop μ-loop
 returns c = let L = c .before in let st = L .before .before in size-last (st .pre) (omega arith) (L .loop .inv)
 

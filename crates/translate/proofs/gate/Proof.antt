@@ -2,27 +2,19 @@ use borrow.Author.Needs.{needs}
 use Rattle.translate.proofs.StoredLaw.{walks-gate}
 use Rattle.translate.proofs.gate.Statement.{statement}
 use Rattle.translate.proofs.gate.Tie as tie
-use Rattle.translate.proofs.gate.Reads as reads
-use Rattle.translate.proofs.gate.Lts as lts
-use Rattle.translate.proofs.append.Reads as append-reads
 
--- src/lib.rt:27:9
 append-requires : tie.Need-append-requires
 append-requires c κs = search needs
 
--- src/lib.rt:28:9
 append-requires-2 : tie.Need-append-requires-2
 append-requires-2 c κs = search needs
 
--- src/lib.rt:29:5
 append-requires-3 : tie.Need-append-requires-3
 append-requires-3 c κs = search needs
 
--- src/lib.rt:23:1
 same-length : tie.Need-same-length
 same-length c = search needs
 
--- src/lib.rt:23:1
 returns : tie.Need-returns
 returns c =
     let a3 = c .before .before in

@@ -6,49 +6,34 @@ use Rattle.translate.proofs.DeliversLaw.{size-most, refused-check, refu
 use borrow.Author.Needs.{needs}
 use Rattle.translate.proofs.translate.Statement.{statement}
 use Rattle.translate.proofs.translate.Tie as tie
-use Rattle.translate.proofs.translate.Reads as reads
-use Rattle.translate.proofs.translate.Lts as lts
-use Rattle.psl.proofs.check_psl.Reads as check-psl-reads
-use Rattle.translate.proofs.emit.Reads as emit-reads
-use Rattle.translate.proofs.emitted_size.Reads as emitted-size-reads
 
--- src/lib.rt:164:11
 check-psl-requires : tie.Need-check-psl-requires
 check-psl-requires c κs = search needs
 
--- src/lib.rt:165:26
 enum-known-x : tie.Need-enum-known-x
 enum-known-x c = search needs
 
--- src/lib.rt:167:17
 enum-told : tie.Need-enum-told
 enum-told c = search needs
 
--- src/lib.rt:167:17
 emitted-size-requires : tie.Need-emitted-size-requires
 emitted-size-requires c κs = let E = c in let C = E .before .before in let st = C .before .before .before in let t = st .args .t .now in let l = st .args .out .now in let e = accepted (pslRefusal t) (C .check-psl .result) (C .check-psl .ensures) (E .enum-told .given .1) in e
 
--- src/lib.rt:168:28
 mul-if1 : tie.Need-mul-if1
 mul-if1 c = let E = c .before in let C = E .before .before in let st = C .before .before .before in let t = st .args .t .now in let l = st .args .out .now in let e = accepted (pslRefusal t) (C .check-psl .result) (C .check-psl .ensures) (E .enum-told .given .1) in omega (arith, c .emitted-size .ensures, size-most t e)
 
--- src/lib.rt:169:17
 returns : tie.Need-returns
 returns c = let Z = c .before in let E = Z .before in let C = E .before .before in let st = C .before .before .before in let t = st .args .t .now in let l = st .args .out .now in let e = accepted (pslRefusal t) (C .check-psl .result) (C .check-psl .ensures) (E .enum-told .given .1) in refused-room t l e (omega (arith, Z .emitted-size .ensures, c .if1 .taken))
 
--- src/lib.rt:171:13
 emit-requires : tie.Need-emit-requires
 emit-requires c κs = let el = c .before in let Z = el .before in let E = Z .before in let C = E .before .before in let st = C .before .before .before in let t = st .args .t .now in let l = st .args .out .now in let e = accepted (pslRefusal t) (C .check-psl .result) (C .check-psl .ensures) (E .enum-told .given .1) in (e, omega (arith, Z .emitted-size .ensures, el .if1 .left))
 
--- src/lib.rt:161:1
 returns-2 : tie.Need-returns-2
 returns-2 c = let X = c .before in let C = X .before .before in let st = C .before .before .before in let t = st .args .t .now in let l = st .args .out .now in refused-check t l (was-refused (pslRefusal t) (C .check-psl .result) _ (C .check-psl .ensures) (X .x .given .1))
 
--- src/lib.rt:161:1
 same-length : tie.Need-same-length
 same-length c = search needs
 
--- src/lib.rt:161:1
 returns-3 : tie.Need-returns-3
 returns-3 c = let M = c .before .before in let el = M .before .before in let Z = el .before in let E = Z .before in let C = E .before .before in let st = C .before .before .before in let t = st .args .t .now in let l = st .args .out .now in let e = accepted (pslRefusal t) (C .check-psl .result) (C .check-psl .ensures) (E .enum-told .given .1) in delivered t l e (Z .emitted-size .ensures) (omega (arith, el .if1 .left)) (M .emit .ensures)
 

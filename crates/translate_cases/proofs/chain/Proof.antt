@@ -5,8 +5,6 @@ use Prim.Native.Nat.{_-_, _≤_}
 use lib.ListN.{length}
 use Rattle.translate_cases.proofs.chain.Statement.{statement}
 use Rattle.translate_cases.proofs.chain.Tie as tie
-use Rattle.translate_cases.proofs.chain.Reads as reads
-use Rattle.translate_cases.proofs.chain.Lts as lts
 
 abbrev Inv-loop : tie.InvT-loop
 Inv-loop t₀ i₀ t i = (2 ≤ i) × (i ≤ 1024) × (length t ≡ 3072)
@@ -14,63 +12,48 @@ Inv-loop t₀ i₀ t i = (2 ≤ i) × (i ≤ 1024) × (length t ≡ 3072)
 abbrev μ-loop : tie.MeasureT-loop
 μ-loop t₀ i₀ t i = 1024 - i
 
--- src/main.rt:45:5
 array-write-t : tie.Need-array-write-t Inv-loop μ-loop
 array-write-t c = search needs
 
--- src/main.rt:47:5
 loop-holds : tie.Need-loop-holds Inv-loop μ-loop
 loop-holds c = search needs
 
--- src/main.rt:48:11
 mul-t : tie.Need-mul-t Inv-loop μ-loop
 mul-t c = search needs
 
--- src/main.rt:48:9
 mul-t-2 : tie.Need-mul-t-2 Inv-loop μ-loop
 mul-t-2 c = search needs
 
--- src/main.rt:48:9
 array-write-t-2 : tie.Need-array-write-t-2 Inv-loop μ-loop
 array-write-t-2 c = search needs
 
--- src/main.rt:49:25
 sub-t : tie.Need-sub-t Inv-loop μ-loop
 sub-t c = search needs
 
--- src/main.rt:49:24
 cast-t : tie.Need-cast-t Inv-loop μ-loop
 cast-t c = search needs
 
--- src/main.rt:49:11
 mul-t-3 : tie.Need-mul-t-3 Inv-loop μ-loop
 mul-t-3 c = search needs
 
--- src/main.rt:49:11
 add-t : tie.Need-add-t Inv-loop μ-loop
 add-t c = search needs
 
--- src/main.rt:49:9
 mul-t-4 : tie.Need-mul-t-4 Inv-loop μ-loop
 mul-t-4 c = search needs
 
--- src/main.rt:49:9
 array-write-t-3 : tie.Need-array-write-t-3 Inv-loop μ-loop
 array-write-t-3 c = search needs
 
--- src/main.rt:50:9
 add-i : tie.Need-add-i Inv-loop μ-loop
 add-i c = search needs
 
--- src/main.rt:47:5
 loop-less : tie.Need-loop-less Inv-loop μ-loop
 loop-less c = search needs
 
--- src/main.rt:47:5
 loop-again : tie.Need-loop-again Inv-loop μ-loop
 loop-again c = search needs
 
--- src/main.rt:41:1
 returns : tie.Need-returns Inv-loop μ-loop
 returns c = search needs
 
