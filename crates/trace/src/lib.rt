@@ -77,3 +77,10 @@ pub fn letter_of<'a>(lead: &'a [Letter], cycle: &'a [Letter], m: Moment) -> Foun
 {
     view_letter(view(lead, cycle), m)
 }
+
+// The rest of the list that a moment falls in, by way of the view.
+pub fn rest_of<'a>(lead: &'a [Letter], cycle: &'a [Letter], m: Moment) -> &'a [Letter]
+    ensures { λ r. ⌜ RestIs (lead .entry) (cycle .entry) (m .0) r ⌝ }
+{
+    view_rest(view(lead, cycle), m)
+}
