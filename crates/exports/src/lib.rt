@@ -88,12 +88,13 @@ fn copy(part: &[Letter], out: &mut [Letter])
 }
 
 // 256 and the length of the part; its letters stand in the lent list, as many as have room.
+// The moment comes last: a slice that only half fits into the registers would be passed in another way than Rust does.
 #[no_mangle]
 pub extern "C" fn brancadol_rest<'a>(
     lead: &'a [Letter],
     cycle: &'a [Letter],
-    moment: usize,
     out: &mut [Letter],
+    moment: usize,
 ) -> u64
     ensures { λ r. ⌜ r ≡ 256 + length (restOf (now (lead .entry)) (now (cycle .entry)) moment) ⌝ }
     ensures { λ _. ⌜ now (out .exit) ≡ sets (now (out .entry)) 0 (restOf (now (lead .entry)) (now (cycle .entry)) moment) ⌝ }
