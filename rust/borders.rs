@@ -384,10 +384,12 @@ pub fn cases(operation: usize) -> Vec<Case> {
             .collect(),
         6 => looks()
             .into_iter()
-            .map(|(lead, cycle, moment)| Case::Rest {
+            .flat_map(|look| (0..=5).map(move |space| (look.clone(), space)))
+            .map(|((lead, cycle, moment), space)| Case::Rest {
                 lead,
                 cycle,
                 moment,
+                space,
             })
             .collect(),
         7 => formula_lines(),

@@ -194,12 +194,18 @@ fn shown_case(case: &Case) -> String {
             lead,
             cycle,
             moment,
-        }
-        | Case::Rest {
+        } => format!("moment {} of {}", moment, shown_trace(lead, cycle)),
+        Case::Rest {
             lead,
             cycle,
             moment,
-        } => format!("moment {} of {}", moment, shown_trace(lead, cycle)),
+            space,
+        } => format!(
+            "moment {} of {}, space {}",
+            moment,
+            shown_trace(lead, cycle),
+            space
+        ),
         Case::FormulaLine { line, space } => format!("{}, space {}", shown_line(line), space),
         Case::TraceLine {
             line,

@@ -1272,6 +1272,7 @@ pub enum Case {
         lead: Vec<u32>,
         cycle: Vec<u32>,
         moment: usize,
+        space: usize,
     },
     FormulaLine {
         line: Vec<u8>,
@@ -1356,11 +1357,15 @@ pub fn case_of(rng: &mut Rng, operation: usize) -> Case {
         }
         6 => {
             let (lead, cycle) = view(rng);
+            let (lead, cycle) = told_apart(rng, lead.len(), cycle.len());
             let moment = moment(rng, lead.len(), cycle.len());
+            let (_, start, end) = oracle::rest(&lead, &cycle, moment);
+            let space = space(rng, end - start);
             Case::Rest {
                 lead,
                 cycle,
                 moment,
+                space,
             }
         }
         7 => {
@@ -1413,4 +1418,17 @@ fn view(rng: &mut Rng) -> (Vec<u32>, Vec<u32>) {
     } else {
         trace(rng)
     }
+}
+
+/// Two lists of these lengths with no letter twice: a part of them tells
+/// which list it is from, and where.
+fn told_apart(rng: &mut Rng, lead: usize, cycle: usize) -> (Vec<u32>, Vec<u32>) {
+    // Steps by an odd number meet no letter again before all are used.
+    let (first, step) = (rng.next() as u32, rng.next() as u32 | 1);
+    let letter = |at: usize| first.wrapping_add(step.wrapping_mul(at as u32));
+    let all = lead + cycle;
+    (
+        (0..lead).map(letter).collect(),
+        (lead..all).map(letter).collect(),
+    )
 }

@@ -13,7 +13,8 @@ mod exported {
         pub fn brancadol_ltl_verdict(table: &[u16], lead: &[u32], cycle: &[u32]) -> u64;
         pub fn brancadol_translate(table: &[u16], out: &mut [u16]) -> u64;
         pub fn brancadol_letter_at(lead: &[u32], cycle: &[u32], moment: usize) -> u64;
-        pub fn brancadol_rest(lead: &[u32], cycle: &[u32], moment: usize) -> u64;
+        // The moment comes last: see the library's own note.
+        pub fn brancadol_rest(lead: &[u32], cycle: &[u32], out: &mut [u32], moment: usize) -> u64;
         pub fn brancadol_read_formula(line: &[u8], out: &mut [u16]) -> u64;
         pub fn brancadol_read_trace(line: &[u8], lead: &mut [u32], cycle: &mut [u32]) -> u64;
         pub fn brancadol_write_node(
@@ -27,7 +28,7 @@ mod exported {
 }
 
 // Every call below is sound: the library is proved safe for every argument
-// of these types, the two `holds` for the arguments they name.
+// of these types.
 
 /// 256, or a refusal.
 pub fn check_psl(table: &[u16]) -> u64 {
@@ -59,9 +60,10 @@ pub fn letter_at(lead: &[u32], cycle: &[u32], moment: usize) -> u64 {
     unsafe { exported::brancadol_letter_at(lead, cycle, moment) }
 }
 
-/// 256 + the length of the part handed back.
-pub fn rest(lead: &[u32], cycle: &[u32], moment: usize) -> u64 {
-    unsafe { exported::brancadol_rest(lead, cycle, moment) }
+/// 256 + the length of the part; its letters stand in `out`, as many as have
+/// room.
+pub fn rest(lead: &[u32], cycle: &[u32], moment: usize, out: &mut [u32]) -> u64 {
+    unsafe { exported::brancadol_rest(lead, cycle, out, moment) }
 }
 
 /// 256 + the nodes, or a refusal.

@@ -12,7 +12,7 @@ pub struct Operations {
     pub ltl_verdict: fn(&[u16], &[u32], &[u32]) -> u64,
     pub translate: fn(&[u16], &mut [u16]) -> u64,
     pub letter_at: fn(&[u32], &[u32], usize) -> u64,
-    pub rest: fn(&[u32], &[u32], usize) -> u64,
+    pub rest: fn(&[u32], &[u32], usize, &mut [u32]) -> u64,
     pub read_formula: fn(&[u8], &mut [u16]) -> u64,
     pub read_trace: fn(&[u8], &mut [u32], &mut [u32]) -> u64,
     pub write_node: fn(u16, u16, u16, u16, &mut [u8]) -> u64,
@@ -31,9 +31,17 @@ fn coded_lengths(answer: Result<(usize, usize), u8>) -> u64 {
     coded(answer.map(|(lead, cycle)| 65536 * lead + cycle))
 }
 
-fn oracle_rest(lead: &[u32], cycle: &[u32], moment: usize) -> u64 {
-    let (_, start, end) = oracle::rest(lead, cycle, moment);
-    coded(Ok(end - start))
+/// The evaluator's part, of which as many letters are copied as have room.
+fn oracle_rest(lead: &[u32], cycle: &[u32], moment: usize, out: &mut [u32]) -> u64 {
+    let (list, start, end) = oracle::rest(lead, cycle, moment);
+    let part = match list {
+        oracle::List::Lead => &lead[start..end],
+        oracle::List::Cycle => &cycle[start..end],
+    };
+    for (place, letter) in out.iter_mut().zip(part) {
+        *place = *letter;
+    }
+    coded(Ok(part.len()))
 }
 
 pub const LIBRARY: Operations = Operations {
@@ -114,8 +122,6 @@ impl<T> Lent<T> {
 #[derive(PartialEq, Eq, Debug)]
 pub struct Outcome {
     pub answer: u64,
-    /// The letter of the moment, where the rest of a list is not empty.
-    pub first: Option<u64>,
     pub lists: [Vec<u64>; 2],
 }
 
@@ -123,7 +129,6 @@ impl Outcome {
     fn answer(answer: u64) -> Outcome {
         Outcome {
             answer,
-            first: None,
             lists: [Vec::new(), Vec::new()],
         }
     }
@@ -137,12 +142,6 @@ impl Outcome {
     pub fn difference(&self, due: &Outcome) -> Option<String> {
         if self.answer != due.answer {
             return Some("the answers".to_string());
-        }
-        if self.first != due.first {
-            return Some(format!(
-                "first letter {:?}, due {:?}",
-                self.first, due.first
-            ));
         }
         for (list, (got, due)) in self.lists.iter().zip(&due.lists).enumerate() {
             if let Some(at) = (0..due.len()).find(|&at| got[at] != due[at]) {
@@ -185,13 +184,11 @@ pub fn outcome(operations: &Operations, case: &Case, seed: u64) -> Outcome {
             lead,
             cycle,
             moment,
+            space,
         } => {
-            let answer = (operations.rest)(lead, cycle, *moment);
-            let first = (answer > 256).then(|| (operations.letter_at)(lead, cycle, *moment));
-            Outcome {
-                first,
-                ..Outcome::answer(answer)
-            }
+            let mut out = Lent::new(rng, *space, |bits| bits as u32);
+            let answer = (operations.rest)(lead, cycle, *moment, out.space());
+            Outcome::answer(answer).with(0, out)
         }
         Case::FormulaLine { line, space } => {
             let mut out = Lent::new(rng, *space, |bits| bits as u16);

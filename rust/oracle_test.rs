@@ -856,6 +856,7 @@ fn answer(case: &Case) -> (u8, bool) {
             lead,
             cycle,
             moment,
+            ..
         } => {
             let (list, start, end) = oracle::rest(lead, cycle, *moment);
             let part = match list {

@@ -1,7 +1,8 @@
 // The boundary for tests in Rust: each operation with its answer as one number.
 ghost use mathlib.Core.Path.{_≡_};
-ghost use Prim.Native.Nat.{_+_};
+ghost use Prim.Native.Nat.{_+_, min};
 ghost use lib.ListN.{length};
+ghost use lib.Seq.{sets};
 ghost use Rattle.trace.specs.Moments.{letterAt, restOf, found};
 ghost use Rattle.table.specs.Answer.{checked};
 ghost use Rattle.psl.specs.Check.{pslRefusal};
@@ -65,15 +66,42 @@ pub extern "C" fn brancadol_letter_at<'a>(
 ) -> u64
     ensures { λ r. ⌜ r ≡ foundCode (found (letterAt (now (lead .entry)) (now (cycle .entry)) moment)) ⌝ }
 {
-    found_code(trace::letter_at(lead, cycle, Moment(moment)))
+    found_code(trace::letter_of(lead, cycle, Moment(moment)))
 }
 
-// 256 and the length of the part.
-#[no_mangle]
-pub extern "C" fn brancadol_rest<'a>(lead: &'a [Letter], cycle: &'a [Letter], moment: usize) -> u64
-    ensures { λ r. ⌜ r ≡ 256 + length (restOf (now (lead .entry)) (now (cycle .entry)) moment) ⌝ }
+fn fewer(a: usize, b: usize) -> usize
+    ensures { λ r. ⌜ r ≡ min a b ⌝ }
 {
-    256 + (trace::rest(lead, cycle, Moment(moment)).len() as u64)
+    if a < b { a } else { b }
+}
+
+// The letters of a part into a lent list from its start on, as many as have room.
+fn copy(part: &[Letter], out: &mut [Letter])
+    ensures { λ _. ⌜ now (out .exit) ≡ sets (now (out .entry)) 0 (now (part .entry)) ⌝ }
+{
+    let end = fewer(part.len(), out.len());
+    let mut i: usize = 0;
+    while i < end {
+        out[i] = part[i];
+        i += 1;
+    }
+}
+
+// 256 and the length of the part; its letters stand in the lent list, as many as have room.
+// The moment comes last: a slice that only half fits into the registers would be passed in another way than Rust does.
+#[no_mangle]
+pub extern "C" fn brancadol_rest<'a>(
+    lead: &'a [Letter],
+    cycle: &'a [Letter],
+    out: &mut [Letter],
+    moment: usize,
+) -> u64
+    ensures { λ r. ⌜ r ≡ 256 + length (restOf (now (lead .entry)) (now (cycle .entry)) moment) ⌝ }
+    ensures { λ _. ⌜ now (out .exit) ≡ sets (now (out .entry)) 0 (restOf (now (lead .entry)) (now (cycle .entry)) moment) ⌝ }
+{
+    let part = trace::rest_of(lead, cycle, Moment(moment));
+    copy(part, out);
+    256 + (part.len() as u64)
 }
 
 #[no_mangle]

@@ -19,3 +19,15 @@ pub fn show(l: &[u16]) {
     }
     io::write_all(STDOUT_FILENO, b"\n");
 }
+
+// A line: a name and letters.
+pub fn show_letters(name: &[u8], l: &[u32]) {
+    io::write_all(STDOUT_FILENO, name);
+    let mut i: usize = 0;
+    while i < l.len() {
+        io::write_all(STDOUT_FILENO, b" ");
+        io::print_decimal(STDOUT_FILENO, l[i] as u64);
+        i += 1;
+    }
+    io::write_all(STDOUT_FILENO, b"\n");
+}

@@ -1,3 +1,4 @@
 pub mod MomentsLaw
 pub mod WordLaw
 pub mod TestLaw
+pub mod ClaimsLaw

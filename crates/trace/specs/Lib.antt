@@ -1,3 +1,4 @@
 pub mod Letter
 pub mod Moments
 pub mod Word
+pub mod Claims

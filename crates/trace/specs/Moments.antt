@@ -8,7 +8,6 @@ use lib.Dec.{ltb}
 use lib.ListN.{length, getD, drop}
 use denote.Ref.{RefT, ptr, now}
 use Rattle.trace.specs.Letter.{letterBytes}
-use Rattle.trace.specs.declared.Refusal.{Refusal}
 use Rattle.trace.specs.declared.Found.{Found}
 use Rattle.trace.specs.declared.Found.the-variants.{Letter, Refused}
 
@@ -41,6 +40,9 @@ InTrace t m = has (t m)
 abbrev pub found : Option ℕ → Found
 found (some x) = Letter x
 found none = Refused (record { 0 = 25 })
+
+abbrev pub LetterIs : List ℕ → List ℕ → ℕ → Found → Type 0
+LetterIs lead loop m r = r ≡ found (letterAt lead loop m)
 
 -- The rest of the list that a moment falls in, from that letter on: past both lists nothing.
 unfoldable pub restOf : List ℕ → List ℕ → ℕ → List ℕ

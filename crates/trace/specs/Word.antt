@@ -1,8 +1,8 @@
 -- Words over letters and the two special letters TOP and BOTTOM, which serve the meaning of a PSL formula only.
-use mathlib.Core.Bool.{Bool, true, false, cond}
+use mathlib.Core.Bool.{cond}
 use mathlib.Core.Option.{Option, none, some}
 use Prim.Native.Nat.{ℕ, _+_}
-use lib.Dec.{T, ltb}
+use lib.Dec.{ltb}
 use Rattle.trace.specs.Moments.{Trace}
 
 -- What stands at a moment of a word: a letter, TOP, BOTTOM, or nothing once the word is over.

@@ -1,6 +1,6 @@
 // Traces: the letter of a moment, and the rest of the list that a moment falls in.
 ghost use mathlib.Core.Path.{_≡_};
-ghost use Rattle.trace.specs.Moments.{letterAt, found, RestIs};
+ghost use Rattle.trace.specs.Moments.{LetterIs, RestIs};
 
 // A letter: signal k holds where bit k is set.
 pub type Letter = u32;
@@ -18,7 +18,7 @@ pub enum Found {
 
 // The letter of a moment. In the code the loop list is called `cycle`, since `loop` is a keyword.
 pub fn letter_at<'a>(lead: &'a [Letter], cycle: &'a [Letter], m: Moment) -> Found
-    ensures { λ r. ⌜ r ≡ found (letterAt (now (lead .entry)) (now (cycle .entry)) (m .0)) ⌝ }
+    ensures { λ r. ⌜ LetterIs (now (lead .entry)) (now (cycle .entry)) (m .0) r ⌝ }
 {
     let at = m.0;
     if at < lead.len() {
@@ -60,7 +60,7 @@ pub fn view<'a>(lead: &'a [Letter], cycle: &'a [Letter]) -> TraceView<'a>
 }
 
 pub fn view_letter<'a>(t: TraceView<'a>, m: Moment) -> Found
-    ensures { λ r. ⌜ r ≡ found (letterAt (now (t .entry .lead)) (now (t .entry .cycle)) (m .0)) ⌝ }
+    ensures { λ r. ⌜ LetterIs (now (t .entry .lead)) (now (t .entry .cycle)) (m .0) r ⌝ }
 {
     letter_at(t.lead, t.cycle, m)
 }
@@ -73,7 +73,14 @@ pub fn view_rest<'a>(t: TraceView<'a>, m: Moment) -> &'a [Letter]
 
 // The letter of a moment by way of the view: whoever calls this has plain parameters.
 pub fn letter_of<'a>(lead: &'a [Letter], cycle: &'a [Letter], m: Moment) -> Found
-    ensures { λ r. ⌜ r ≡ found (letterAt (now (lead .entry)) (now (cycle .entry)) (m .0)) ⌝ }
+    ensures { λ r. ⌜ LetterIs (now (lead .entry)) (now (cycle .entry)) (m .0) r ⌝ }
 {
     view_letter(view(lead, cycle), m)
+}
+
+// The rest of the list that a moment falls in, by way of the view.
+pub fn rest_of<'a>(lead: &'a [Letter], cycle: &'a [Letter], m: Moment) -> &'a [Letter]
+    ensures { λ r. ⌜ RestIs (lead .entry) (cycle .entry) (m .0) r ⌝ }
+{
+    view_rest(view(lead, cycle), m)
 }

@@ -7,11 +7,11 @@ use Rattle.exports.proofs.brancadol_letter_at.Tie as tie
 use Rattle.exports.proofs.brancadol_letter_at.Reads as reads
 use Rattle.exports.proofs.brancadol_letter_at.Lts as lts
 use Rattle.exports.proofs.found_code.Reads as found-code-reads
-use Rattle.trace.proofs.letter_at.Reads as letter-at-reads
+use Rattle.trace.proofs.letter_of.Reads as letter-of-reads
 
 -- src/lib.rt:56:16
-letter-at-requires : tie.Need-letter-at-requires
-letter-at-requires c κs = search needs
+letter-of-requires : tie.Need-letter-of-requires
+letter-of-requires c κs = search needs
 
 -- src/lib.rt:56:5
 found-code-requires : tie.Need-found-code-requires
@@ -19,7 +19,7 @@ found-code-requires c κs = search needs
 
 -- src/lib.rt:48:1
 returns : tie.Need-returns
-returns c = c .found-code .ensures ∙ ap foundCode (c .before .letter-at .ensures)
+returns c = c .found-code .ensures ∙ ap foundCode (c .before .letter-of .ensures)
 
 pub brancadol-letter-at-spec : {M : Type 1} → statement M
-brancadol-letter-at-spec = tie.close (tie.spec letter-at-requires found-code-requires returns)
+brancadol-letter-at-spec = tie.close (tie.spec letter-of-requires found-code-requires returns)
