@@ -4,20 +4,13 @@ use Rattle.exports.specs.Coded.{checkedCode}
 use borrow.Author.Needs.{needs}
 use Rattle.exports.proofs.brancadol_check_psl.Statement.{statement}
 use Rattle.exports.proofs.brancadol_check_psl.Tie as tie
-use Rattle.exports.proofs.brancadol_check_psl.Reads as reads
-use Rattle.exports.proofs.brancadol_check_psl.Lts as lts
-use Rattle.exports.proofs.checked_code.Reads as checked-code-reads
-use Rattle.psl.proofs.check_psl.Reads as check-psl-reads
 
--- src/lib.rt:73:18
 check-psl-requires : tie.Need-check-psl-requires
 check-psl-requires c κs = search needs
 
--- src/lib.rt:73:5
 checked-code-requires : tie.Need-checked-code-requires
 checked-code-requires c κs = search needs
 
--- src/lib.rt:69:1
 returns : tie.Need-returns
 returns c = c .checked-code .ensures ∙ ap checkedCode (c .before .check-psl .ensures)
 

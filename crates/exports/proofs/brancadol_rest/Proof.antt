@@ -7,10 +7,6 @@ use lib.Seq.{sets}
 use borrow.Author.Needs.{needs}
 use Rattle.exports.proofs.brancadol_rest.Statement.{statement}
 use Rattle.exports.proofs.brancadol_rest.Tie as tie
-use Rattle.exports.proofs.brancadol_rest.Reads as reads
-use Rattle.exports.proofs.brancadol_rest.Lts as lts
-use Rattle.exports.proofs.copy.Reads as copy-reads
-use Rattle.trace.proofs.rest_of.Reads as rest-of-reads
 
 rest-of-requires : tie.Need-rest-of-requires
 rest-of-requires c κs = search needs

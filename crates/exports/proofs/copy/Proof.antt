@@ -7,9 +7,6 @@ use lib.ListN.{length}
 use Rattle.exports.proofs.CopyLaw.{Copied, copied-none, copied-more, copied-all}
 use Rattle.exports.proofs.copy.Statement.{statement}
 use Rattle.exports.proofs.copy.Tie as tie
-use Rattle.exports.proofs.copy.Reads as reads
-use Rattle.exports.proofs.copy.Lts as lts
-use Rattle.exports.proofs.fewer.Reads as fewer-reads
 
 abbrev Inv-loop : tie.InvT-loop
 Inv-loop part out₀ end i₀ out i = (length out ≡ length out₀) × (i ≤ end) × Copied part out₀ out i

@@ -4,30 +4,22 @@ use Rattle.exports.specs.Coded.{formulaCode}
 use borrow.Author.Needs.{needs}
 use Rattle.exports.proofs.formula_code.Statement.{statement}
 use Rattle.exports.proofs.formula_code.Tie as tie
-use Rattle.exports.proofs.formula_code.Reads as reads
-use Rattle.exports.proofs.formula_code.Lts as lts
 
--- src/lib.rt:132:21
 enum-known-a : tie.Need-enum-known-a
 enum-known-a c = search needs
 
--- src/lib.rt:132:27
 add-result : tie.Need-add-result
 add-result c = search needs
 
--- src/lib.rt:133:23
 enum-known-a-2 : tie.Need-enum-known-a-2
 enum-known-a-2 c = search needs
 
--- src/lib.rt:133:29
 cast-result : tie.Need-cast-result
 cast-result c = search needs
 
--- src/lib.rt:128:1
 returns : tie.Need-returns
 returns c = sym (ap formulaCode (c .before .a .given .1))
 
--- src/lib.rt:128:1
 returns-2 : tie.Need-returns-2
 returns-2 c = search needs
 

@@ -4,34 +4,25 @@ use Rattle.exports.specs.Coded.{foundCode}
 use borrow.Author.Needs.{needs}
 use Rattle.exports.proofs.found_code.Statement.{statement}
 use Rattle.exports.proofs.found_code.Tie as tie
-use Rattle.exports.proofs.found_code.Reads as reads
-use Rattle.exports.proofs.found_code.Lts as lts
 
--- src/lib.rt:24:23
 enum-known-a : tie.Need-enum-known-a
 enum-known-a c = search needs
 
--- src/lib.rt:24:36
 cast-result : tie.Need-cast-result
 cast-result c = search needs
 
--- src/lib.rt:24:29
 add-result : tie.Need-add-result
 add-result c = search needs
 
--- src/lib.rt:25:24
 enum-known-a-2 : tie.Need-enum-known-a-2
 enum-known-a-2 c = search needs
 
--- src/lib.rt:25:30
 cast-result-2 : tie.Need-cast-result-2
 cast-result-2 c = search needs
 
--- src/lib.rt:20:1
 returns : tie.Need-returns
 returns c = sym (ap foundCode (c .before .a .given .1))
 
--- src/lib.rt:20:1
 returns-2 : tie.Need-returns-2
 returns-2 c = search needs
 

@@ -5,10 +5,6 @@ use Prim.Native.Nat.{_-_, _≤_}
 use lib.ListN.{length}
 use Rattle.report.proofs.show.Statement.{statement}
 use Rattle.report.proofs.show.Tie as tie
-use Rattle.report.proofs.show.Reads as reads
-use Rattle.report.proofs.show.Lts as lts
-use Rattle.io.proofs.print_decimal.Reads as print-decimal-reads
-use Rattle.io.proofs.write_all.Reads as write-all-reads
 
 abbrev Inv-loop : tie.InvT-loop
 Inv-loop l i₀ t3 t4 i = i ≤ length l
@@ -16,55 +12,42 @@ Inv-loop l i₀ t3 t4 i = i ≤ length l
 abbrev μ-loop : tie.MeasureT-loop
 μ-loop l i₀ t3 t4 i = length l - i
 
--- src/lib.rt:15:5
 loop-holds : tie.Need-loop-holds Inv-loop μ-loop
 loop-holds c = search needs
 
--- src/lib.rt:16:42
 mul-print-decimal : tie.Need-mul-print-decimal Inv-loop μ-loop
 mul-print-decimal c = search needs
 
--- src/lib.rt:16:42
 shared-slice-read-print-decimal : tie.Need-shared-slice-read-print-decimal Inv-loop μ-loop
 shared-slice-read-print-decimal c = search needs
 
--- src/lib.rt:16:42
 cast-print-decimal : tie.Need-cast-print-decimal Inv-loop μ-loop
 cast-print-decimal c = omega (arith, c .shared-slice-known2 .given (c .before .before .loop .i))
 
--- src/lib.rt:16:9
 print-decimal-requires : tie.Need-print-decimal-requires Inv-loop μ-loop
 print-decimal-requires c κs = search needs
 
--- src/lib.rt:17:38
 slice-aggregate-write-all : tie.Need-slice-aggregate-write-all Inv-loop μ-loop
 slice-aggregate-write-all c = search needs
 
--- src/lib.rt:17:9
 write-all-requires : tie.Need-write-all-requires Inv-loop μ-loop
 write-all-requires c κs = search needs
 
--- src/lib.rt:18:9
 add-i : tie.Need-add-i Inv-loop μ-loop
 add-i c = search needs
 
--- src/lib.rt:15:5
 loop-less : tie.Need-loop-less Inv-loop μ-loop
 loop-less c = search needs
 
--- src/lib.rt:15:5
 loop-again : tie.Need-loop-again Inv-loop μ-loop
 loop-again c = search needs
 
--- src/lib.rt:20:34
 slice-aggregate-write-all-2 : tie.Need-slice-aggregate-write-all-2 Inv-loop μ-loop
 slice-aggregate-write-all-2 c = search needs
 
--- src/lib.rt:20:5
 write-all-requires-2 : tie.Need-write-all-requires-2 Inv-loop μ-loop
 write-all-requires-2 c κs = search needs
 
--- src/lib.rt:13:1
 returns : tie.Need-returns Inv-loop μ-loop
 returns c = search needs
 

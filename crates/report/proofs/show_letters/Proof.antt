@@ -5,10 +5,6 @@ use Prim.Native.Nat.{_-_, _≤_}
 use lib.ListN.{length}
 use Rattle.report.proofs.show_letters.Statement.{statement}
 use Rattle.report.proofs.show_letters.Tie as tie
-use Rattle.report.proofs.show_letters.Reads as reads
-use Rattle.report.proofs.show_letters.Lts as lts
-use Rattle.io.proofs.print_decimal.Reads as print-decimal-reads
-use Rattle.io.proofs.write_all.Reads as write-all-reads
 
 abbrev Inv-loop : tie.InvT-loop
 Inv-loop name l i₀ t4 t5 i = i ≤ length l

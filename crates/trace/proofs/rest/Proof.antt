@@ -9,8 +9,6 @@ use lib.Seq.{take-all, drop-length}
 use Rattle.trace.specs.Moments.{restOf, restStart}
 use Rattle.trace.proofs.rest.Statement.{statement}
 use Rattle.trace.proofs.rest.Tie as tie
-use Rattle.trace.proofs.rest.Reads as reads
-use Rattle.trace.proofs.rest.Lts as lts
 
 -- What a part up to a list's end holds.
 to-end : (l : List ℕ) (m : ℕ) → take (length l - m) (drop m l) ≡ drop m l
@@ -39,67 +37,51 @@ starts-loop : (p q : ℕ × ℕ) (n e m k : ℕ) → n ≤ m → k ≡ min (m - 
 unfolding restStart
 starts-loop p q n e m k h c = simp (le-ltb _ _ h) (ap (λ (j : ℕ). (q .0, j * 4 + q .1)) c)
 
--- src/lib.rt:42:16
 mul-result : tie.Need-mul-result
 mul-result c = search needs
 
--- src/lib.rt:42:16
 sub-result : tie.Need-sub-result
 sub-result c = search needs
 
--- src/lib.rt:42:16
 part-result-start : tie.Need-part-result-start
 part-result-start c = search needs
 
--- src/lib.rt:42:16
 part-result-end : tie.Need-part-result-end
 part-result-end c = search needs
 
--- src/lib.rt:42:9
 returns : tie.Need-returns
 returns c = let st = c .before .before in let a = st .args .lead in let b = st .args .cycle in let m = st .args .m .0 in record { content = in-lead (a .now) (b .now) m (c .before .if1 .taken); start = starts-lead (a .ptr) (b .ptr) (length (a .now)) (length (b .now)) m (c .before .if1 .taken) }
 
--- src/lib.rt:44:16
 sub-past : tie.Need-sub-past
 sub-past c = search needs
 
--- src/lib.rt:47:16
 mul-result-2 : tie.Need-mul-result-2
 mul-result-2 c = search needs
 
--- src/lib.rt:47:16
 sub-result-2 : tie.Need-sub-result-2
 sub-result-2 c = search needs
 
--- src/lib.rt:47:16
 part-result-start-2 : tie.Need-part-result-start-2
 part-result-start-2 c = search needs
 
--- src/lib.rt:47:16
 part-result-end-2 : tie.Need-part-result-end-2
 part-result-end-2 c = search needs
 
--- src/lib.rt:47:9
 returns-2 : tie.Need-returns-2
 returns-2 c = let st = c .before .before .before in let a = st .args .lead in let b = st .args .cycle in let m = st .args .m .0 in record { content = in-loop (a .now) (b .now) m (omega arith); start = starts-loop (a .ptr) (b .ptr) (length (a .now)) (length (b .now)) m (m - length (a .now)) (omega arith) (omega arith) }
 
--- src/lib.rt:49:5
 mul-result-3 : tie.Need-mul-result-3
 mul-result-3 c = search needs
 
--- src/lib.rt:49:5
 sub-result-3 : tie.Need-sub-result-3
 sub-result-3 c = search needs
 
--- src/lib.rt:49:5
 part-result-start-3 : tie.Need-part-result-start-3
 part-result-start-3 c = search needs
 
--- src/lib.rt:49:5
 part-result-end-3 : tie.Need-part-result-end-3
 part-result-end-3 c = search needs
 
--- src/lib.rt:36:1
 returns-3 : tie.Need-returns-3
 returns-3 c = let st = c .before .before .before in let a = st .args .lead in let b = st .args .cycle in let m = st .args .m .0 in record { content = past-both (a .now) (b .now) m (omega arith) (omega arith); start = starts-loop (a .ptr) (b .ptr) (length (a .now)) (length (b .now)) m (length (b .now)) (omega arith) (omega arith) }
 
