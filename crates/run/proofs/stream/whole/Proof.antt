@@ -6,7 +6,7 @@ use native.Mathlib.Omega.{arith}
 use Prim.Native.Nat.{ℕ, _<_}
 use lib.ListN.{length-replicate}
 use borrow.Author.Needs.{needs}
-use Rattle.run.specs.Inner.{Within}
+use Rattle.run.specs.Inner.{keptBytes, Within}
 use Rattle.run.proofs.ProgressLaw.{going-start}
 use Rattle.run.proofs.StreamLaw.{Underway, underway-turn}
 use Rattle.run.proofs.stream.whole.Statement.{statement}
@@ -21,7 +21,7 @@ abbrev μ-loop : tie.MeasureT-loop
 loop-holds : tie.Need-loop-holds Inv-loop μ-loop
 loop-holds c = (
   record {
-    lineRoom = length-replicate {A = ℕ} 16385 0;
+    lineRoom = length-replicate {A = ℕ} keptBytes 0;
     pslRoom = length-replicate {A = ℕ} 3072 0;
     ltlRoom = length-replicate {A = ℕ} 12288 0;
     outRoom = length-replicate {A = ℕ} 1200000 0;
