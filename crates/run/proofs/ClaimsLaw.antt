@@ -27,6 +27,7 @@ use Rattle.run.specs.Printed.{refusedText, verdictText, tableText}
 use Rattle.run.specs.Whole.{Tells, Judged, LaterAnswer, laterText, PrintsTraces, Prints}
 use Rattle.run.specs.declared.Later.{Later}
 use Rattle.run.specs.declared.Later.the-variants as Later
+use Rattle.run.proofs.StreamLaw.{turned}
 
 -- ── Verdicts ──
 
@@ -104,6 +105,7 @@ prints-alone (line ∷ ls) out out′ (inr (x, a, e)) (inr (y, b, e′)) =
 pub claims : Claims
 claims =
     record {
+      turns = λ t a m. a .ends m _ _ (turned t);
       one-output = λ input out out′ p q. prints-alone (inputLines input) out out′ p q;
       agree = agree;
       none-ltl = none-ltl;

@@ -17,13 +17,13 @@ use Rattle.verdict.specs.declared.Verdict.{Verdict}
 use Rattle.lines.specs.Inner.Writer.{Wrote}
 use Rattle.run.specs.Printed.{refusedText, traceText, tableText}
 use Rattle.run.specs.Whole.{LaterAnswer, Runs}
-use Rattle.run.specs.Inner.{TablesOf, FirstAnswer, Going, At, longest, shortest, mostBlock, Within, Gathered, Remembers, FirstDone, LaterDone, LineDone, Keeps, Fed, Finished, Ends, Advanced, idle, stopped, Turned}
+use Rattle.run.specs.Inner.{TablesOf, FirstAnswer, Going, At, longest, shortest, mostBlock, Within, Gathered, Remembers, FirstDone, LaterDone, LineDone, Keeps, Fed, Finished, Ends, Advanced, start, Turns, no-turn, one-turn, idle, stopped, Turned}
 use Rattle.run.specs.declared.First.{First}
 use Rattle.run.specs.declared.First.the-variants as First
 use Rattle.run.specs.declared.Later.{Later}
 use Rattle.run.specs.declared.Later.the-variants as Later
 use Rattle.run.specs.declared.stream.State.{State}
-use Rattle.run.proofs.ProgressLaw.{going-same, going-byte, at-first, going-later, end-empty, end-open}
+use Rattle.run.proofs.ProgressLaw.{going-start, going-same, going-byte, at-first, going-later, end-empty, end-open}
 
 -- ── Bounds ──
 
@@ -383,11 +383,17 @@ turn-idle {line} {psl} {ltl} {out} s r w m (inl e) =
 
 -- ── The whole run ──
 
--- Some bytes were read and some printed, and the run goes on from them.
+-- ── Turns ──
+
+pub turned : {read done line psl ltl : List ℕ} {s : State} → Turns read done s line psl ltl → Going read done s line psl ltl
+turned no-turn = going-start start refl refl
+turned (one-turn t a m) = a .goes m _ _ (turned t)
+
+-- Some turns have been made.
 abbrev pub Underway : State → List ℕ → List ℕ → List ℕ → Type 0
-Underway s line psl ltl = (read : List ℕ) × (done : List ℕ) × Going read done s line psl ltl
+Underway s line psl ltl = (read : List ℕ) × (done : List ℕ) × Turns read done s line psl ltl
 
 pub underway-turn : {line psl ltl line′ psl′ ltl′ out′ : List ℕ} (s r : State) → Underway s line psl ltl → Turned line psl ltl s r line′ psl′ ltl′ out′ → r .more ≡ true
     → Underway r line′ psl′ ltl′
 underway-turn {out′ = out′} s r (read, done, g) t m =
-    (read ++ t .block, done ++ take (r .gathered) out′, t .takes (t .within .working m) .goes m read done g)
+    (read ++ t .block, done ++ take (r .gathered) out′, one-turn g (t .takes (t .within .working m)) m)

@@ -170,6 +170,16 @@ pub record Advanced (block line psl ltl : List ℕ) (s r : State) (line′ psl�
       → Going (read ++ block) (done ++ take (r .gathered) out′) r line′ psl′ ltl′
   pub ends : r .more ≡ false → (read done : List ℕ) → Going read done s line psl ltl → Ends read block (done ++ take (r .gathered) out′)
 
+-- Before the first byte.
+abbrev pub start : State
+start = record { number = 1; filled = 0; nodes = 0; size = 0; gathered = 0; more = true; failed = false }
+
+-- Turns from the start on: the blocks that were taken, one after another, and the bytes that each gathered.
+pub data Turns : List ℕ → List ℕ → State → List ℕ → List ℕ → List ℕ → Type 0 where
+  no-turn : {line psl ltl : List ℕ} → Turns [] [] start line psl ltl
+  one-turn : {read done block line psl ltl line′ psl′ ltl′ out′ : List ℕ} {s r : State} → Turns read done s line psl ltl
+      → Advanced block line psl ltl s r line′ psl′ ltl′ out′ → r .more ≡ true → Turns (read ++ block) (done ++ take (r .gathered) out′) r line′ psl′ ltl′
+
 -- Nothing was read, and nothing is gathered; and the same where the run stops.
 abbrev pub idle : State → State
 idle s = record { number = s .number; filled = s .filled; nodes = s .nodes; size = s .size; gathered = 0; more = s .more; failed = s .failed }

@@ -2,5 +2,5 @@
 pub mod Input
 pub mod Printed
 pub mod Whole
-pub mod Claims
 pub mod Inner
+pub mod Claims

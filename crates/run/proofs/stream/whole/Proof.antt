@@ -6,8 +6,7 @@ use native.Mathlib.Omega.{arith}
 use Prim.Native.Nat.{ℕ, _<_}
 use lib.ListN.{length-replicate}
 use borrow.Author.Needs.{needs}
-use Rattle.run.specs.Inner.{keptBytes, Within}
-use Rattle.run.proofs.ProgressLaw.{going-start}
+use Rattle.run.specs.Inner.{keptBytes, Within, no-turn}
 use Rattle.run.proofs.StreamLaw.{Underway, underway-turn}
 use Rattle.run.proofs.stream.whole.Statement.{statement}
 use Rattle.run.proofs.stream.whole.Tie as tie
@@ -32,7 +31,7 @@ loop-holds c = (
     working = λ _. refl;
     stored = λ h. absurd (omega arith);
   },
-  λ _. (refl, ([], [], going-start _ refl refl)),
+  λ _. (refl, ([], [], no-turn)),
 )
 
 slice-aggregate-turn : tie.Need-slice-aggregate-turn Inv-loop μ-loop
