@@ -12,7 +12,7 @@ use borrow.Author.Tests.{eq-eqb, ne-eqb, lt-ltb, le-ltb, le-leb, leb-false}
 use lib.ListN.{length, getD, List·getD-append}
 use lib.Seq.{getD-at}
 use lib.Dec.{T, eqb, ltb}
-use Rattle.trace.specs.Letter.{signals}
+use Rattle.logic.specs.Letter.{signals}
 use Rattle.trace.specs.declared.Refusal.{Refusal}
 use Rattle.table.specs.declared.Place.{Place}
 use Rattle.table.specs.Node.{Node, node, numbersOf, count, kindAt, leftAt, rightAt, nodeAt, _▸_, last}
@@ -20,7 +20,7 @@ use Rattle.table.specs.Check.{operand, unused, shapeOf, sortFits, isBoolean, le
 use Rattle.table.proofs.NodeLaw.{nodes-numbers, length-numbers, length-more, node-at}
 use Rattle.table.proofs.CheckLaw.{Fits, Sound, node-none, fit-below, lowest-zero, lowest-next, refused-none}
 use Rattle.table.proofs.SumLaw.{total-same}
-use Rattle.psl.specs.Formula.{Formula}
+use Rattle.logic.specs.Formula.{Formula}
 use Rattle.psl.specs.Check.{pslRules, one as oneIf, names, namesAt, uses, useRefusal, pslRefusal}
 use Rattle.psl.proofs.CheckLaw.{root-fine, psl-then}
 use Rattle.lines.specs.Closing.{table}

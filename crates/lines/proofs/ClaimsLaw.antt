@@ -4,7 +4,7 @@ use mathlib.Core.List.{List}
 use Prim.Native.Nat.{ℕ}
 use lib.ListN.{length}
 use Rattle.table.specs.Node.{numbersOf}
-use Rattle.psl.specs.Formula.{Formula}
+use Rattle.logic.specs.Formula.{Formula}
 use Rattle.lines.specs.Claims.{Claims}
 use Rattle.lines.specs.Spelling.{formulaLine, Trace, lineOfTrace}
 use Rattle.lines.specs.Closing.{table}

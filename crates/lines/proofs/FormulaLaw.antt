@@ -6,7 +6,7 @@ use Prim.Native.Nat.{ℕ}
 use native.Mathlib.Omega.{arith}
 use lib.Dec.{T, eqb}
 use Rattle.table.specs.Node.{Node, node}
-use Rattle.psl.specs.Formula.{BoolExpr, btrue, var, bnot, band, Formula, weak, strong, fnot, fand, next, until, abort}
+use Rattle.logic.specs.Formula.{BoolExpr, btrue, var, bnot, band, Formula, weak, strong, fnot, fand, next, until, abort}
 use Rattle.psl.specs.Table.{Part, boolean, formula, asFormula, partOf}
 use Rattle.lines.specs.Text.{text}
 use Rattle.lines.specs.Spelling.{spellB, spell, formulaLine}

@@ -8,7 +8,7 @@ use borrow.Author.Tests.{le-leb, lt-leb}
 use lib.ListN.{length, drop, set, length-append}
 use lib.Seq.{sets}
 use lib.Dec.{leb}
-use Rattle.trace.specs.Letter.{signals}
+use Rattle.logic.specs.Letter.{signals}
 use Rattle.lines.specs.Spelling.{digits}
 use Rattle.lines.specs.Inner.Places.{byteAt, Stands, Agree, Language, Begins, Halts, Stops}
 use Rattle.lines.specs.Inner.Number.{NoDigit, Numeral, Numbered}

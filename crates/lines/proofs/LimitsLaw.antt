@@ -7,14 +7,14 @@ use native.Mathlib.Omega.{arith}
 use borrow.Author.Tests.{leb-true, le-leb, not-true}
 use lib.Dec.{leb}
 use lib.ListN.{length}
-use Rattle.trace.specs.Letter.{mostLetters}
-use Rattle.trace.specs.Moments.{size}
+use Rattle.trace.specs.Limits.{mostLetters}
+use Rattle.logic.specs.Trace.{size}
 use Rattle.trace.specs.declared.Refusal.{Refusal}
 use Rattle.table.specs.Node.{numbersOf}
 use Rattle.table.specs.Answer.{refused}
 use Rattle.table.specs.Check.{unless, orElse}
 use Rattle.table.proofs.CheckLaw.{some-none}
-use Rattle.psl.specs.Formula.{Formula}
+use Rattle.logic.specs.Formula.{Formula}
 use Rattle.psl.specs.Check.{pslRules, pslRefusal}
 use Rattle.lines.specs.Spelling.{Trace}
 use Rattle.lines.specs.Closing.{table}

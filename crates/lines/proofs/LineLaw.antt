@@ -9,10 +9,10 @@ use borrow.Author.Tests.{lt-leb, le-leb, ne-eqb}
 use lib.ListN.{length, drop}
 use lib.Seq.{drop-length}
 use lib.Dec.{eqb, leb}
-use Rattle.trace.specs.Letter.{signals}
+use Rattle.logic.specs.Letter.{signals}
 use Rattle.table.specs.Node.{Node, node, numbersOf, _▸_}
 use Rattle.table.proofs.NodeLaw.{length-numbers}
-use Rattle.psl.specs.Formula.{btrue, Formula, weak}
+use Rattle.logic.specs.Formula.{btrue, Formula, weak}
 use Rattle.table.specs.Answer.{refused}
 use Rattle.lines.specs.Text.{text}
 use Rattle.lines.specs.Spelling.{spell, formulaLine}

@@ -9,7 +9,7 @@ use borrow.Author.Tests.{le-leb, lt-leb}
 use lib.ListN.{length, drop}
 use lib.Seq.{sets}
 use lib.Dec.{T, leb}
-use Rattle.trace.specs.Letter.{signals}
+use Rattle.logic.specs.Letter.{signals}
 use Rattle.table.specs.Node.{Node, node, numbersOf, _▸_, last}
 use Rattle.table.proofs.NodeLaw.{length-numbers, length-more}
 use Rattle.lines.specs.Text.{text}

@@ -5,7 +5,7 @@ use Prim.Native.Nat.{ℕ, _-_}
 use native.Mathlib.Omega.{arith}
 use Rattle.table.specs.Node.{Node, node, numbersOf, _▸_, last, look, grow}
 use Rattle.table.proofs.NodeLaw.{nodes-numbers, Grown, grown-one, grown-join, length-grow}
-use Rattle.psl.specs.Formula.{BoolExpr, btrue, var, bnot, band, Formula, weak, strong, fnot, fand, next, until, abort}
+use Rattle.logic.specs.Formula.{BoolExpr, btrue, var, bnot, band, Formula, weak, strong, fnot, fand, next, until, abort}
 use Rattle.psl.specs.Table.{Part, boolean, formula, asFormula, partOf, formulaOf}
 use Rattle.lines.specs.Closing.{nodesB, nodes, table}
 

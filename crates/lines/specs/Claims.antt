@@ -5,7 +5,7 @@ use mathlib.Core.List.{List}
 use Prim.Native.Nat.{ℕ}
 use lib.ListN.{length}
 use Rattle.table.specs.Node.{Node, numbersOf}
-use Rattle.psl.specs.Formula.{Formula}
+use Rattle.logic.specs.Formula.{Formula}
 use Rattle.psl.specs.Table.{formulaOf}
 use Rattle.psl.specs.Check.{pslRefusal}
 use Rattle.lines.specs.Spelling.{formulaLine, Trace, lineOfTrace, nodeLine}

@@ -1,7 +1,7 @@
 -- The PSL table of a formula: its nodes in the order in which their forms close.
 use mathlib.Core.List.{List, []}
 use Rattle.table.specs.Node.{Node, node, _▸_, last}
-use Rattle.psl.specs.Formula.{BoolExpr, btrue, var, bnot, band, Formula, weak, strong, fnot, fand, next, until, abort}
+use Rattle.logic.specs.Formula.{BoolExpr, btrue, var, bnot, band, Formula, weak, strong, fnot, fand, next, until, abort}
 
 -- Each appends to the nodes that are there; its own node is the last then.
 unfoldable pub nodesB : BoolExpr → List Node → List Node

@@ -6,12 +6,12 @@ use mathlib.Core.List.{List, [], _∷_}
 use Prim.Native.Nat.{ℕ, _*_}
 use lib.ListN.{length}
 use lib.Dec.{eqb, leb}
-use Rattle.trace.specs.Letter.{signals}
+use Rattle.logic.specs.Letter.{signals}
 use Rattle.trace.specs.declared.Refusal.{Refusal}
 use Rattle.table.specs.Node.{Node, node, numbersOf}
 use Rattle.table.specs.Answer.{refused}
 use Rattle.table.specs.Check.{unless, orElse}
-use Rattle.psl.specs.Formula.{Formula}
+use Rattle.logic.specs.Formula.{Formula}
 use Rattle.psl.specs.Check.{pslRules}
 use Rattle.lines.specs.Spelling.{formulaLine}
 use Rattle.lines.specs.Closing.{table}

@@ -6,8 +6,9 @@ use mathlib.Core.List.{List, [], _∷_}
 use Prim.Native.Nat.{ℕ, _^_}
 use lib.ListN.{length}
 use lib.Dec.{leb}
-use Rattle.trace.specs.Letter.{signals, mostLetters}
-use Rattle.trace.specs.Moments.{size}
+use Rattle.logic.specs.Letter.{signals}
+use Rattle.trace.specs.Limits.{mostLetters}
+use Rattle.logic.specs.Trace.{size}
 use Rattle.trace.specs.declared.Refusal.{Refusal}
 use Rattle.table.specs.Answer.{refused}
 use Rattle.table.specs.Check.{unless, orElse}

@@ -1,10 +1,9 @@
--- What is claimed of LTL tables and of the LTL meaning holds.
+-- What is claimed of LTL tables holds.
 use mathlib.Core.Path.{sym, _∙_}
 use native.Mathlib.Omega.{arith}
 use Rattle.table.proofs.CheckLaw.{table-sized}
 use Rattle.ltl.specs.Check.{ltlRules}
 use Rattle.ltl.specs.Claims.{Claims}
-use Rattle.ltl.proofs.KnownLaw.{known}
 use Rattle.ltl.proofs.AcceptedLaw.{some-node, most-nodes, is-var, both-below}
 
 pub claims : Claims
@@ -14,5 +13,4 @@ claims =
       sized = λ t e. (omega (arith, table-sized ltlRules t e .threes), omega (arith, some-node t e), most-nodes t e);
       signal = is-var;
       before = both-below;
-      known = known;
     }

@@ -1,4 +1,3 @@
-pub mod KnownLaw
 pub mod CheckLaw
 pub mod AcceptedLaw
 pub mod ClaimsLaw

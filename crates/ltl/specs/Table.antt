@@ -3,7 +3,7 @@ use Prim.Native.Nat.{ℕ}
 use mathlib.Core.List.{List, [], _∷_}
 use lib.ListN.{getD}
 use Rattle.table.specs.Node.{Node, node, root}
-use Rattle.ltl.specs.Tree.{Ltl, ltrue, lvar, lnot, land, lor, lnext, luntil}
+use Rattle.logic.specs.Tree.{Ltl, ltrue, lvar, lnot, land, lor, lnext, luntil}
 
 -- What each kind stands for, kind by kind from 0 on, with the trees that stand under its operands' numbers.
 unfoldable pub treeOfNode : (ℕ → Ltl) → Node → Ltl

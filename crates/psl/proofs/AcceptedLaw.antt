@@ -6,11 +6,11 @@ use mathlib.Core.List.{List}
 use native.Mathlib.Omega.{arith}
 use lib.ListN.{length}
 use borrow.Author.Tests.{ltb-true, ltb-false}
-use Rattle.trace.specs.Letter.{signals}
+use Rattle.logic.specs.Letter.{signals}
 use Rattle.table.specs.Node.{count, kindAt, leftAt, rightAt}
 use Rattle.table.specs.Check.{boolean, formula, isBoolean, tableRefusal}
 use Rattle.table.proofs.CheckLaw.{Fits, fit-sort, fit-below, table-sized, kind-in, left-fits, right-fits}
-use Rattle.psl.specs.Formula.{btrue, var, bnot, band, weak, strong, fnot, fand, next, until, abort}
+use Rattle.logic.specs.Formula.{btrue, var, bnot, band, weak, strong, fnot, fand, next, until, abort}
 use Rattle.psl.specs.Table.{asBoolean, asFormula}
 use Rattle.psl.specs.Parts.{booleanAt, formulaAt}
 use Rattle.psl.specs.Check.{pslRules, pslRefusal}

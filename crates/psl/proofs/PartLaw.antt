@@ -12,7 +12,7 @@ use Rattle.table.specs.Check.{shapeOf, isBoolean, tableRefusal}
 use Rattle.table.proofs.CheckLaw.{Fits, fit-below, fit-sort, kind-in, left-fits, right-fits}
 use Rattle.table.proofs.KindLaw.{_⨾_, each}
 use Rattle.table.proofs.ValueLaw.{Same, Local, root-value, value-of}
-use Rattle.psl.specs.Formula.{btrue, var, bnot, band, weak, strong, fnot, fand, next, until, abort}
+use Rattle.logic.specs.Formula.{btrue, var, bnot, band, weak, strong, fnot, fand, next, until, abort}
 use Rattle.psl.specs.Table.{Part, boolean, formula, asBoolean, asFormula, partOf, formulaOf}
 use Rattle.psl.specs.Check.{pslRules}
 use Rattle.psl.specs.Parts.{partAt, booleanAt, formulaAt}

@@ -14,7 +14,7 @@ use Rattle.table.specs.Check.{shapeOf, tableRefusal, total}
 use Rattle.table.proofs.CheckLaw.{fit-below, kind-in, table-sized, table-sound}
 use Rattle.table.proofs.KindLaw.{_⨾_, each}
 use Rattle.table.proofs.SumLaw.{total-same, total-add, total-zero, total-one, total-ones}
-use Rattle.psl.specs.Formula.{weighB, weigh, nodeCount}
+use Rattle.psl.specs.Size.{weighB, weigh, nodeCount}
 use Rattle.psl.specs.Table.{Part, boolean, formula, asBoolean, asFormula, partOf, formulaOf}
 use Rattle.psl.specs.Check.{pslRules, one, names, namesAt, uses, pslRefusal}
 use Rattle.psl.specs.Parts.{partAt, formulaAt}

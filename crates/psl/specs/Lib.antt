@@ -1,10 +1,7 @@
-pub mod Formula
-pub mod Meaning
-pub mod Empty
+pub mod Size
 pub mod Table
 pub mod Parts
 pub mod Check
 pub mod Counts
 pub mod Answer
-pub mod Known
 pub mod Claims

@@ -2,7 +2,7 @@
 use Prim.Native.Nat.{ℕ}
 use mathlib.Core.List.{List}
 use Rattle.table.specs.Node.{valueAt}
-use Rattle.psl.specs.Formula.{BoolExpr, btrue, Formula}
+use Rattle.logic.specs.Formula.{BoolExpr, btrue, Formula}
 use Rattle.psl.specs.Table.{Part, boolean, asBoolean, asFormula, partOf}
 
 unfoldable pub partAt : List ℕ → ℕ → Part

@@ -7,9 +7,10 @@ use native.Mathlib.Omega.{arith}
 use lib.Dec.{eqb}
 use lib.Pow.{pow-pos}
 use lib.Bits.{bitAnd, bitOr, or-shr, or-mod, mask-lt}
-use Rattle.trace.specs.Letter.{bit, mostLetters}
+use Rattle.logic.specs.Letter.{bit}
+use Rattle.trace.specs.Limits.{mostLetters}
 use Rattle.rows.specs.Rows.{Swept}
-use Rattle.rows.proofs.BitLaw.{bit-first, bit-suc, bit-not, bit-and, bit-or, bit-mod, test-first}
+use Rattle.logic.proofs.BitLaw.{bit-first, bit-suc, bit-not, bit-and, bit-or, bit-mod, test-first}
 
 abbrev sum : ℕ → ℕ → ℕ → ℕ
 sum f g c = bitOr f g + g + c

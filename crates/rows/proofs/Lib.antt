@@ -1,4 +1,4 @@
-pub mod BitLaw
+pub mod PushLaw
 pub mod PlaceLaw
 pub mod RowLaw
 pub mod SignalLaw

@@ -5,35 +5,22 @@ use mathlib.Core.Logic.{_⊎_, inl, inr, _↔_, Iff·rfl}
 use mathlib.Core.List.{List}
 use Prim.Native.Nat.{ℕ, zero, suc, _+_, _-_, _/_, _^_, _≤_, _<_}
 use native.Mathlib.Omega.{arith}
-use native.Mathlib.Decide.{decLt}
 use lib.Dec.{T}
 use lib.ListN.{length}
-use Rattle.trace.specs.Letter.{bit}
-use Rattle.trace.specs.Moments.{Trace, letterAt, size, InTrace}
-use Rattle.trace.proofs.MomentsLaw.{gapless, inside-before}
-use Rattle.ltl.specs.Tree.{Ltl, luntil}
-use Rattle.ltl.specs.Meaning.{LtlHolds}
+use Rattle.logic.specs.Letter.{bit}
+use Rattle.logic.specs.Trace.{Trace, letterAt, size, InTrace}
+use Rattle.logic.proofs.MomentsLaw.{gapless, inside-before}
+use Rattle.logic.specs.Tree.{Ltl, luntil}
+use Rattle.logic.specs.LtlMeaning.{LtlHolds}
+use Rattle.logic.proofs.StepLaw.{until-now, until-later}
 use Rattle.rows.specs.Rows.{place, Tells, Few, Swept}
-use Rattle.rows.proofs.BitLaw.{bit-zero, bit-brought}
+use Rattle.logic.proofs.BitLaw.{bit-zero, bit-brought}
 use Rattle.rows.proofs.PlaceLaw.{place-lt, place-start, in-loop, Next, on, round, end, next}
-use Rattle.trace.proofs.TestLaw.{and-iff, or-iff}
+use Rattle.logic.proofs.TestLaw.{and-iff, or-iff}
 
 -- A step: the second operand, or the first and what follows.
 step-is : (b a c : Bool) → (T b ⊎ (T a × T c)) ↔ T (b || a && c)
 step-is b a c = or-iff b (a && c) Iff·rfl (and-iff a c Iff·rfl Iff·rfl)
-
--- ── Until by one moment ──
-
-module _ (x y : Ltl) (t : Trace) (i : ℕ) where
-  until-now : InTrace t i → LtlHolds y t i → LtlHolds (luntil x y) t i
-  until-now k h = (i, omega arith, k, h, λ j l u. absurd (omega arith))
-
-  until-later : LtlHolds x t i → LtlHolds (luntil x y) t (suc i) → LtlHolds (luntil x y) t i
-  until-later a u = (u .0, omega (arith, u .1), u .2, u .3, λ j l b. from j l b (decLt i j))
-    where
-      from : (j : ℕ) → i ≤ j → j < u .0 → Dec (i < j) → LtlHolds x t j
-      from j l b (yes h) = u .4 j h b
-      from j l b (no h) = subst (LtlHolds x t) (omega arith) a
 
 -- ── A sweep by moments ──
 

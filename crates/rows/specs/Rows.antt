@@ -6,11 +6,12 @@ use mathlib.Core.Path.{_≡_}
 use Prim.Native.Nat.{ℕ, suc, _+_, _-_, _%_, _≤_, _<_}
 use lib.Dec.{T, ltb}
 use lib.ListN.{length, getD}
-use Rattle.trace.specs.Letter.{bit, signals, mostLetters}
-use Rattle.trace.specs.Moments.{letterAt, size, InTrace}
+use Rattle.logic.specs.Letter.{bit, signals}
+use Rattle.trace.specs.Limits.{mostLetters}
+use Rattle.logic.specs.Trace.{letterAt, size, InTrace}
 use Rattle.table.specs.Node.{node}
-use Rattle.ltl.specs.Tree.{Ltl, lvar}
-use Rattle.ltl.specs.Meaning.{LtlHolds}
+use Rattle.logic.specs.Tree.{Ltl, lvar}
+use Rattle.logic.specs.LtlMeaning.{LtlHolds}
 use Rattle.ltl.specs.Table.{treeOfNode}
 
 -- The place of moment m: how many letters of both lists stand after its letter. Past the lead-in it goes round the loop.

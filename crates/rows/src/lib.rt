@@ -1,27 +1,25 @@
 // Rows: the truths of an LTL tree at all moments of a trace, in one word. not, and, or are one operation of the machine; RowLaw has what they tell.
+use logic::Letter;
+use logic::SIGNALS;
 use std::num::wrapping_add_u64;
 use std::num::wrapping_sub_usize;
-use table::SIGNALS;
-use trace::Letter;
+use trace::MOST_LETTERS;
 ghost use mathlib.Core.Path.{_≡_};
 ghost use mathlib.Core.Logic.{_↔_};
 ghost use mathlib.Core.List.{List, _++_};
 ghost use Prim.Native.Nat.{ℕ, _≤_, _<_};
 ghost use lib.Dec.{T};
 ghost use lib.ListN.{length};
-ghost use Rattle.trace.specs.Letter.{bit, signals};
-ghost use Rattle.trace.specs.Moments.{size};
-ghost use Rattle.ltl.specs.Tree.{Ltl, lvar, lnot, land, lor, lnext, luntil};
-ghost use Rattle.ltl.specs.Meaning.{LtlHoldsOn};
+ghost use Rattle.logic.specs.Letter.{bit, signals};
+ghost use Rattle.logic.specs.Trace.{size};
+ghost use Rattle.logic.specs.Tree.{Ltl, lvar, lnot, land, lor, lnext, luntil};
+ghost use Rattle.logic.specs.LtlMeaning.{LtlHoldsOn};
 ghost use Rattle.rows.specs.Rows.{Tells, Few, SignalIn, Learns, Swept, TellsNode};
 
 // The last letter of both lists has the lowest bit, the one before it the next, and so on; bits past the first letter may hold anything. So what
 // follows a moment is one bit lower, and nothing has to be masked out. A shift is taken modulo the word's length, so that no caller has to
 // show that a trace has room; what a row tells is said of those that have.
 pub type Row = u64;
-
-// The most letters that a verdict takes: a bit for each.
-pub const MOST_LETTERS: usize = 64;
 
 // Yes at every moment.
 pub const ALWAYS: Row = u64::MAX;

@@ -6,18 +6,18 @@ use Prim.Native.Nat.{ℕ, _*_, _≤_}
 use native.Mathlib.Omega.{arith}
 use borrow.Author.Tests.{le-leb}
 use lib.ListN.{length, take, replicate, length-replicate}
-use Rattle.trace.specs.Letter.{mostLetters}
-use Rattle.trace.specs.Moments.{size}
+use Rattle.trace.specs.Limits.{mostLetters}
+use Rattle.logic.specs.Trace.{size}
 use Rattle.trace.specs.declared.Refusal.{Refusal}
 use Rattle.table.specs.Answer.{refused}
 use Rattle.table.specs.Node.{numbersOf}
 use Rattle.table.proofs.NodeLaw.{length-numbers}
 use Rattle.table.proofs.CheckLaw.{some-none}
-use Rattle.psl.specs.Formula.{Formula}
-use Rattle.psl.specs.Meaning.{HoldsOn}
+use Rattle.logic.specs.Formula.{Formula}
+use Rattle.logic.specs.Meaning.{HoldsOn}
 use Rattle.psl.specs.Table.{formulaOf}
 use Rattle.psl.specs.Check.{pslRefusal}
-use Rattle.ltl.specs.Meaning.{LtlHoldsOn}
+use Rattle.logic.specs.LtlMeaning.{LtlHoldsOn}
 use Rattle.ltl.specs.Table.{treeOf}
 use Rattle.ltl.specs.Check.{ltlRefusal}
 use Rattle.translate.specs.Emitted.{emitted, emittedSize}

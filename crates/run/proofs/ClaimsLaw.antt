@@ -5,10 +5,10 @@ use mathlib.Core.List.{List, [], _∷_, _++_}
 use Prim.Native.Nat.{ℕ, suc, _<_}
 use native.Mathlib.Omega.{arith}
 use native.Mathlib.Decide.{decLt}
-use Rattle.trace.specs.Moments.{size}
-use Rattle.psl.specs.Formula.{Formula}
-use Rattle.psl.specs.Meaning.{HoldsOn}
-use Rattle.ltl.specs.Meaning.{LtlHoldsOn}
+use Rattle.logic.specs.Trace.{size}
+use Rattle.logic.specs.Formula.{Formula}
+use Rattle.logic.specs.Meaning.{HoldsOn}
+use Rattle.logic.specs.LtlMeaning.{LtlHoldsOn}
 use Rattle.ltl.specs.Table.{treeOf}
 use Rattle.translate.specs.Emitted.{emitted}
 use Rattle.translate.proofs.TranslatesLaw.{translates}

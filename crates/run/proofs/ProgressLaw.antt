@@ -11,7 +11,7 @@ use lib.Dec.{ltb}
 use lib.ListN.{length, take, length-append, length-take}
 use lib.Seq.{sets-eq, take-at, take-all, take-suc-set, take-append-le, length-take-le}
 use Rattle.table.specs.Node.{_▸_}
-use Rattle.psl.specs.Formula.{Formula}
+use Rattle.logic.specs.Formula.{Formula}
 use Rattle.translate.specs.Emitted.{emitted}
 use Rattle.lines.specs.Inner.Writer.{Wrote}
 use Rattle.lines.proofs.ReadingLaw.{takes-cut, refuses-cut}

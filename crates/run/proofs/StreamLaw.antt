@@ -12,7 +12,7 @@ use lib.ListN.{length, take, drop, getD, length-set, take-append-drop}
 use lib.Seq.{take-suc, take-all}
 use Rattle.trace.specs.declared.Refusal.{Refusal}
 use Rattle.table.specs.Node.{_▸_}
-use Rattle.psl.specs.Formula.{Formula}
+use Rattle.logic.specs.Formula.{Formula}
 use Rattle.verdict.specs.declared.Verdict.{Verdict}
 use Rattle.lines.specs.Inner.Writer.{Wrote}
 use Rattle.run.specs.Printed.{refusedText, traceText, tableText}

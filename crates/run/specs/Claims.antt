@@ -5,8 +5,8 @@ use mathlib.Core.Bool.{false}
 use mathlib.Core.List.{List, _++_}
 use Prim.Native.Nat.{ℕ, _<_}
 use lib.ListN.{take}
-use Rattle.trace.specs.Moments.{size}
-use Rattle.psl.specs.Formula.{Formula}
+use Rattle.logic.specs.Trace.{size}
+use Rattle.logic.specs.Formula.{Formula}
 use Rattle.verdict.specs.declared.Verdict.{Verdict}
 use Rattle.lines.specs.Text.{text}
 use Rattle.lines.specs.Spelling.{Trace}

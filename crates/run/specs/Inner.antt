@@ -6,7 +6,7 @@ use mathlib.Core.List.{List, [], _∷_, _++_}
 use Prim.Native.Nat.{ℕ, _+_, _*_, _-_, _≤_, _<_}
 use lib.ListN.{length, take, set}
 use Rattle.table.specs.Node.{numbersOf, _▸_}
-use Rattle.psl.specs.Formula.{Formula}
+use Rattle.logic.specs.Formula.{Formula}
 use Rattle.psl.specs.Check.{pslRules, pslRefusal}
 use Rattle.ltl.specs.Check.{ltlRules, ltlRefusal}
 use Rattle.translate.specs.Emitted.{emitted}

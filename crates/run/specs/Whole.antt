@@ -3,12 +3,12 @@ use mathlib.Core.Path.{_≡_}
 use mathlib.Core.Logic.{_⊎_}
 use mathlib.Core.List.{List, [], _∷_, _++_}
 use Prim.Native.Nat.{ℕ, suc, _<_}
-use Rattle.trace.specs.Moments.{size}
+use Rattle.logic.specs.Trace.{size}
 use Rattle.trace.specs.declared.Refusal.{Refusal}
 use Rattle.table.specs.Answer.{refused}
-use Rattle.psl.specs.Formula.{Formula}
-use Rattle.psl.specs.Meaning.{HoldsOn}
-use Rattle.ltl.specs.Meaning.{LtlHoldsOn}
+use Rattle.logic.specs.Formula.{Formula}
+use Rattle.logic.specs.Meaning.{HoldsOn}
+use Rattle.logic.specs.LtlMeaning.{LtlHoldsOn}
 use Rattle.ltl.specs.Table.{treeOf}
 use Rattle.translate.specs.Emitted.{emitted}
 use Rattle.verdict.specs.declared.Verdict.{Verdict}

@@ -4,7 +4,7 @@ mod text;
 
 ghost use mathlib.Core.Path.{_≡_};
 ghost use lib.ListN.{length};
-ghost use Rattle.psl.specs.Formula.{Formula};
+ghost use Rattle.logic.specs.Formula.{Formula};
 ghost use Rattle.run.specs.Whole.{LaterAnswer};
 ghost use Rattle.run.specs.Inner.{TablesOf, Accepted, FirstAnswer};
 use lines::formula::Line;

@@ -1,4 +1,5 @@
 // Tables of triples: what PSL and LTL tables share.
+use logic::SIGNALS;
 use trace::Refusal;
 ghost use mathlib.Core.Path.{_≡_};
 ghost use mathlib.Core.Bool.{true, false, cond, _&&_};
@@ -12,9 +13,6 @@ ghost use Rattle.table.specs.Check.{lengthFits, unusedFits, signalFits, 
 
 // The number of a node, counted from 0 along a table: never a point of time.
 pub struct NodeNo(pub u16);
-
-// How many signals there are.
-pub const SIGNALS: u16 = 32;
 
 // How many kinds a table can have.
 pub const KINDS: u16 = 11;

@@ -1,6 +1,5 @@
 -- What is claimed of traces holds.
-use mathlib.Core.Path.{_≡_, refl, sym, ap, subst, _∙_}
-use mathlib.Core.Logic.{_↔_}
+use mathlib.Core.Path.{_≡_, sym, ap, _∙_}
 use mathlib.Core.Option.{some}
 use mathlib.Core.List.{List, []}
 use Prim.Native.Nat.{ℕ, _-_, _≤_, _<_}
@@ -10,23 +9,10 @@ use native.Mathlib.Decide.{decLt}
 use borrow.Author.Tests.{lt-ltb, le-ltb}
 use lib.ListN.{length, getD, drop, drop-of-length-le}
 use lib.Seq.{getD-drop}
-use Rattle.trace.specs.Moments.{letterAt, size, has, InTrace, restOf}
+use Rattle.logic.specs.Trace.{letterAt, size}
+use Rattle.trace.specs.Answer.{restOf}
 use Rattle.trace.specs.Claims.{Claims}
-use Rattle.trace.proofs.MomentsLaw.{letter-lead, letter-loop, letter-none, is-inside}
-
-looping : (lead loop : List ℕ) (m : ℕ) → 0 < length loop → InTrace (letterAt lead loop) m
-looping lead loop m h = go (decLt m (length lead))
-  where
-    go : Dec (m < length lead) → InTrace (letterAt lead loop) m
-    go (yes b) = is-inside (letterAt lead loop) m _ (letter-lead lead loop m b)
-    go (no b) = is-inside (letterAt lead loop) m _ (letter-loop lead loop m (omega arith) h)
-
-finite : (lead : List ℕ) (m : ℕ) → InTrace (letterAt lead []) m ↔ (m < length lead)
-finite lead m = (λ h. go h (decLt m (length lead)), λ b. is-inside (letterAt lead []) m _ (letter-lead lead [] m b))
-  where
-    go : InTrace (letterAt lead []) m → Dec (m < length lead) → m < length lead
-    go h (yes b) = b
-    go h (no b) = absurd (subst has (letter-none lead [] m (omega arith) refl) h)
+use Rattle.logic.proofs.MomentsLaw.{letter-lead, letter-loop}
 
 rest-lead : (lead loop : List ℕ) (m : ℕ) → m < length lead → restOf lead loop m ≡ drop m lead
 unfolding restOf
@@ -59,8 +45,6 @@ claims =
     record {
       one-letter = λ lead loop m r r′ e e′. e ∙ sym e′;
       one-rest = λ lead loop m r r′ e e′. (e .start ∙ sym (e′ .start), e .content ∙ sym (e′ .content));
-      looping = looping;
-      finite = finite;
       rest-begins = rest-begins;
       rest-past = rest-past;
     }

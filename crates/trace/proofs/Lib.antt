@@ -1,4 +1,1 @@
-pub mod MomentsLaw
-pub mod WordLaw
-pub mod TestLaw
 pub mod ClaimsLaw

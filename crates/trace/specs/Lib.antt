@@ -1,4 +1,3 @@
-pub mod Letter
-pub mod Moments
-pub mod Word
+pub mod Limits
+pub mod Answer
 pub mod Claims

@@ -1,9 +1,10 @@
 // Traces: the letter of a moment, and the rest of the list that a moment falls in.
+use logic::Letter;
 ghost use mathlib.Core.Path.{_≡_};
-ghost use Rattle.trace.specs.Moments.{LetterIs, RestIs};
+ghost use Rattle.trace.specs.Answer.{LetterIs, RestIs};
 
-// A letter: signal k holds where bit k is set.
-pub type Letter = u32;
+// The most letters, in both lists together, that a verdict takes.
+pub const MOST_LETTERS: usize = 64;
 
 // A point of time, counted from 0 along a trace.
 pub struct Moment(pub usize);
@@ -12,7 +13,7 @@ pub struct Moment(pub usize);
 pub struct Refusal(pub u8);
 
 pub enum Found {
-    Letter(u32),
+    Letter(Letter),
     Refused(Refusal),
 }
 

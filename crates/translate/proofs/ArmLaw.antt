@@ -8,7 +8,8 @@ use native.Mathlib.Omega.{arith}
 use lib.Dec.{eqb}
 use native.Mathlib.Decide.{decLt}
 use Rattle.table.specs.Node.{Node, node, _▸_, count, kindAt, leftAt, rightAt}
-use Rattle.psl.specs.Formula.{BoolExpr, btrue, var, bnot, band, Formula, weak, strong, fnot, fand, next, until, abort, weighB, weigh}
+use Rattle.logic.specs.Formula.{BoolExpr, btrue, var, bnot, band, Formula, weak, strong, fnot, fand, next, until, abort}
+use Rattle.psl.specs.Size.{weighB, weigh}
 use Rattle.psl.specs.Check.{pslRefusal}
 use Rattle.psl.specs.Parts.{booleanAt, formulaAt}
 use Rattle.psl.proofs.AcceptedLaw.{Boolean, Formula as IsFormula, kind-known, is-bnot, is-band, is-weak, is-strong, is-and, is-until}

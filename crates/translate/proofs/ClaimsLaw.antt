@@ -3,7 +3,8 @@ use mathlib.Core.Path.{_≡_, sym, _∙_}
 use mathlib.Core.List.{List}
 use Prim.Native.Nat.{ℕ, zero, suc, _+_, _*_}
 use native.Mathlib.Omega.{arith}
-use Rattle.psl.specs.Formula.{btrue, Formula, weak, next, weighB, weigh, nodeCount}
+use Rattle.logic.specs.Formula.{btrue, Formula, weak, next}
+use Rattle.psl.specs.Size.{weighB, weigh, nodeCount}
 use Rattle.translate.specs.Emitted.{adds, emittedSize}
 use Rattle.translate.specs.Answer.{Delivers}
 use Rattle.translate.specs.Claims.{Claims}

@@ -13,7 +13,8 @@ use Rattle.trace.specs.declared.Refusal.{Refusal}
 use Rattle.table.specs.Answer.{refused}
 use Rattle.table.specs.Node.{node, _▸_, count, kindAt}
 use Rattle.table.specs.Check.{unless, orElse, total}
-use Rattle.psl.specs.Formula.{Formula, weigh}
+use Rattle.logic.specs.Formula.{Formula}
+use Rattle.psl.specs.Size.{weigh}
 use Rattle.psl.specs.Table.{formulaOf}
 use Rattle.psl.specs.Check.{pslRefusal}
 use Rattle.psl.specs.Parts.{formulaAt}

@@ -10,13 +10,13 @@ use native.Mathlib.Numerals.{add-one}
 use borrow.Author.Tests.{eq-eqb, lt-ltb, le-ltb, le-leb}
 use lib.ListN.{length, getD, List·getD-append}
 use lib.Seq.{getD-at}
-use Rattle.trace.specs.Letter.{signals}
+use Rattle.logic.specs.Letter.{signals}
 use Rattle.table.specs.Node.{Node, node, numbersOf, count, kindAt, leftAt, rightAt, _▸_, last}
 use Rattle.table.specs.Check.{operand, unused, signal, shapeOf, isBoolean, lengthFits, lowest, tableRefusal, refusalAt}
 use Rattle.table.proofs.NodeLaw.{nodes-numbers, length-numbers, length-more, node-at}
 use Rattle.table.proofs.CheckLaw.{Fits, Sound, node-none, lowest-zero, lowest-next, refused-none, table-sound, kind-in}
 use Rattle.table.proofs.KindLaw.{_⨾_, each}
-use Rattle.psl.specs.Formula.{BoolExpr, btrue, var, bnot, band, Formula, weak, strong, fnot, fand, next, until, abort}
+use Rattle.logic.specs.Formula.{BoolExpr, btrue, var, bnot, band, Formula, weak, strong, fnot, fand, next, until, abort}
 use Rattle.psl.specs.Table.{Part, boolean, formula, asBoolean, asFormula, partOf, formulaOf}
 use Rattle.psl.specs.Parts.{partAt}
 use Rattle.psl.specs.Check.{pslRules, pslRefusal}

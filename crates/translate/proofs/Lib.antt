@@ -1,5 +1,3 @@
-pub mod MarkedLaw
-pub mod KeepsLaw
 pub mod WalkLaw
 pub mod StoredLaw
 pub mod ArmLaw

@@ -1,62 +1,9 @@
 -- Demand 3: the emitted table holds exactly where the formula does, on every trace that is not empty.
-use Prim.Native.Nat.{ℕ, zero, suc, _+_, _<_}
-use mathlib.Core.Path.{_≡_, refl, sym, ap, subst, fun-ext, _∙_}
-use mathlib.Core.Logic.{_↔_}
-use mathlib.Core.Bool.{false}
-use mathlib.Core.Option.{Option, none, some}
-use mathlib.Core.List.{List}
-use native.Mathlib.Omega.{arith}
-use native.Mathlib.Nat.{add-zero, zero-add}
-use Rattle.trace.specs.Moments.{Trace, letterAt, size, has}
-use Rattle.trace.specs.Word.{Word, slotOf, wordOf}
-use Rattle.trace.proofs.MomentsLaw.{Gapless, gapless, inside-before, letter-of, starts, searchable}
-use Rattle.psl.specs.Formula.{Formula}
-use Rattle.psl.specs.Meaning.{Holds, HoldsOn}
-use Rattle.ltl.specs.Meaning.{LtlHolds, LtlHoldsOn}
-use Rattle.translate.specs.Translation.{translated, nothing}
+use Rattle.logic.specs.Formula.{Formula}
+use Rattle.logic.proofs.TranslationLaw.{translated-holds}
 use Rattle.translate.specs.Emitted.{emitted}
 use Rattle.translate.specs.Claim.{Translates}
-use Rattle.translate.proofs.MarkedLaw.{Test, mark, onward, marked}
-use Rattle.translate.proofs.KeepsLaw.{Says, keeps}
 use Rattle.translate.proofs.WalkLaw.{tree-emitted}
-
-never : Test
-never x = false
-
-outside : (o : Option ℕ) → (has o → ⊥) → o ≡ none
-outside none h = refl
-outside (some x) h = absurd (h tt)
-
--- With nothing to accept or reject the marked word is the trace's.
-unmarked : (t : Trace) → Gapless t → (k i : ℕ) → marked never never t i k ≡ slotOf (t (i + k))
-unfolding never
-unmarked t g zero i = go (t i) ∙ ap (λ (m : ℕ). slotOf (t m)) (sym (add-zero i))
-  where
-    go : (o : Option ℕ) → mark never never o ≡ slotOf o
-    go none = refl
-    go (some x) = refl
-unmarked t g (suc k) i = go (t i) refl (unmarked t g k (suc i) ∙ ap (λ (m : ℕ). slotOf (t m)) (omega arith))
-  where
-    go : (o : Option ℕ) → t i ≡ o → marked never never t (suc i) k ≡ slotOf (t (i + suc k))
-        → onward (mark never never o) (marked never never t (suc i) k) ≡ slotOf (t (i + suc k))
-    go none e ih = sym (ap slotOf (outside (t (i + suc k)) (λ h. subst has e (inside-before t g (suc k) i (i + suc k) refl h))))
-    go (some x) e ih = ih
-
-says-never : (t : Trace) → Says t nothing never
-unfolding never
-says-never t i x e = (λ h. h tt, λ h. absurd h)
-
--- A formula holds on a trace that is not empty exactly where its translation does at moment 0.
-pub translated-holds : (f : Formula) (lead loop : List ℕ) → 0 < size lead loop
-    → HoldsOn f lead loop ↔ LtlHoldsOn (translated f nothing nothing) lead loop
-unfolding never
-translated-holds f lead loop h =
-    let t : Trace = letterAt lead loop in
-    let x = letter-of (t 0) (starts lead loop h) in
-    let w : marked never never t 0 ≡ wordOf t =
-    fun-ext (λ k. unmarked t (gapless lead loop) k 0 ∙ ap (λ (m : ℕ). slotOf (t m)) (zero-add k)) in
-    subst (λ (u : Word). Holds f u ↔ LtlHolds (translated f nothing nothing) t 0) w
-    (keeps f t (searchable lead loop) (gapless lead loop) nothing nothing never never (says-never t) (says-never t) (λ y p q. p) 0 (x .0) (x .1))
 
 pub translates : (f : Formula) → Translates f (emitted f)
 translates f lead loop h = rw (tree-emitted f) (translated-holds f lead loop h)

@@ -6,10 +6,11 @@ use native.Mathlib.Omega.{arith}
 use lib.ListN.{length}
 use Rattle.table.specs.Node.{Node, _▸_, last, look, grow}
 use Rattle.table.proofs.NodeLaw.{nodes-numbers, length-numbers, length-more, length-grow, Named, Grown, grown-one, grown-join}
-use Rattle.psl.specs.Formula.{BoolExpr, btrue, var, bnot, band, Formula, weak, strong, fnot, fand, next, until, abort, weighB, weigh, nodeCount}
-use Rattle.ltl.specs.Tree.{Ltl, ltrue, lvar, lnot, land, lor, lnext, luntil}
+use Rattle.logic.specs.Formula.{BoolExpr, btrue, var, bnot, band, Formula, weak, strong, fnot, fand, next, until, abort}
+use Rattle.psl.specs.Size.{weighB, weigh, nodeCount}
+use Rattle.logic.specs.Tree.{Ltl, ltrue, lvar, lnot, land, lor, lnext, luntil}
 use Rattle.ltl.specs.Table.{treeOfNode, treeOf}
-use Rattle.translate.specs.Translation.{treeB, translated, nothing}
+use Rattle.logic.specs.Translation.{treeB, translated, falsum}
 use Rattle.translate.specs.Emitted.{trueN, varN, notN, andN, orN, nextN, untilN, walkB, gate, walk, emittedNodes, emitted, adds, emittedSize, mostEmitted}
 
 -- ── What the walk appends ──
@@ -118,11 +119,11 @@ abbrev first-two : List Node
 first-two = trueN ∷ notN 0 ∷ []
 
 -- The numbers of the emitted table, read back, give the tree of the translation.
-pub tree-emitted : (f : Formula) → treeOf (emitted f) ≡ translated f nothing nothing
+pub tree-emitted : (f : Formula) → treeOf (emitted f) ≡ translated f falsum falsum
 unfolding treeOf emitted treeOfNode
 tree-emitted f =
-    let h : NamedL first-two 1 nothing = record { below = omega arith; is = refl } in
-    let p = grown f first-two 1 1 nothing nothing h h in
+    let h : NamedL first-two 1 falsum = record { below = omega arith; is = refl } in
+    let p = grown f first-two 1 1 falsum falsum h h in
     rw (nodes-numbers (emittedNodes f))
     (ap (tree (emittedNodes f)) (omega (arith, length-grow ltrue treeOfNode [] (emittedNodes f))) ∙ p .named .is)
 

@@ -3,11 +3,12 @@ use Prim.Native.Nat.{ℕ, zero, suc}
 use mathlib.Core.Path.{refl}
 use mathlib.Core.Logic.{inl, inr}
 use mathlib.Core.List.{[], _∷_}
-use Rattle.trace.specs.Letter.{bit}
-use Rattle.trace.specs.Moments.{letterAt}
-use Rattle.trace.specs.Word.{wordOf}
-use Rattle.psl.specs.Formula.{var, weigh, weighB}
-use Rattle.psl.specs.Meaning.{Satisfies}
+use Rattle.logic.specs.Letter.{bit}
+use Rattle.logic.specs.Trace.{letterAt}
+use Rattle.logic.specs.Word.{wordOf}
+use Rattle.logic.specs.Formula.{var}
+use Rattle.psl.specs.Size.{weigh, weighB}
+use Rattle.logic.specs.Meaning.{Satisfies}
 use Rattle.psl.specs.Table.{formulaOf, partOf}
 use Rattle.translate.specs.Emitted.{walkB, walk, emitted, adds}
 use Rattle.translate.specs.Worked.{Worked}

@@ -2,10 +2,10 @@
 use Prim.Native.Nat.{ℕ, _<_}
 use mathlib.Core.Logic.{_↔_}
 use mathlib.Core.List.{List}
-use Rattle.trace.specs.Moments.{size}
-use Rattle.psl.specs.Formula.{Formula}
-use Rattle.psl.specs.Meaning.{HoldsOn}
-use Rattle.ltl.specs.Meaning.{LtlHoldsOn}
+use Rattle.logic.specs.Trace.{size}
+use Rattle.logic.specs.Formula.{Formula}
+use Rattle.logic.specs.Meaning.{HoldsOn}
+use Rattle.logic.specs.LtlMeaning.{LtlHoldsOn}
 use Rattle.ltl.specs.Table.{treeOf}
 
 -- On every trace that is not empty, finite or looping, of any letters and any length: the formula holds exactly when the table does.

@@ -4,7 +4,8 @@ use mathlib.Core.Option.{none}
 use mathlib.Core.List.{List}
 use Prim.Native.Nat.{ℕ, _*_, _≤_}
 use lib.ListN.{length}
-use Rattle.psl.specs.Formula.{Formula, nodeCount}
+use Rattle.logic.specs.Formula.{Formula}
+use Rattle.psl.specs.Size.{nodeCount}
 use Rattle.psl.specs.Table.{formulaOf}
 use Rattle.psl.specs.Check.{pslRefusal}
 use Rattle.ltl.specs.Check.{ltlRefusal}

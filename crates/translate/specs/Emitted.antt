@@ -3,7 +3,8 @@ use Prim.Native.Nat.{ℕ, _+_}
 use mathlib.Core.List.{List, [], _∷_}
 use lib.ListN.{getD}
 use Rattle.table.specs.Node.{Node, node, numbersOf, _▸_, last}
-use Rattle.psl.specs.Formula.{BoolExpr, btrue, var, bnot, band, Formula, weak, strong, fnot, fand, next, until, abort, weigh}
+use Rattle.logic.specs.Formula.{BoolExpr, btrue, var, bnot, band, Formula, weak, strong, fnot, fand, next, until, abort}
+use Rattle.psl.specs.Size.{weigh}
 
 -- The nodes of an LTL table.
 abbrev pub trueN : Node

@@ -1,4 +1,3 @@
-pub mod Translation
 pub mod Emitted
 pub mod Claim
 pub mod Stored

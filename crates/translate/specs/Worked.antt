@@ -3,9 +3,9 @@ use mathlib.Core.Path.{_≡_}
 use mathlib.Core.List.{List, [], _∷_}
 use Prim.Native.Nat.{ℕ}
 use Rattle.table.specs.Node.{Node, numbersOf}
-use Rattle.psl.specs.Formula.{var, Formula, strong, next, abort}
+use Rattle.logic.specs.Formula.{var, Formula, strong, next, abort}
 use Rattle.psl.specs.Table.{formulaOf}
-use Rattle.psl.specs.Known.{Yes, No}
+use Rattle.logic.specs.KnownVerdicts.{Yes, No}
 use Rattle.translate.specs.Emitted.{trueN, varN, notN, andN, orN, nextN, emitted, emittedSize}
 
 abbrev pub sentence : Formula

@@ -7,7 +7,7 @@ ghost use Prim.Native.Nat.{_+_, _*_, _<_, _≤_};
 ghost use lib.ListN.{length, set, drop};
 ghost use lib.Dec.{eqb};
 ghost use Rattle.table.specs.Node.{node, _▸_, count, kindAt};
-ghost use Rattle.psl.specs.Formula.{weighB, weigh};
+ghost use Rattle.psl.specs.Size.{weighB, weigh};
 ghost use Rattle.psl.specs.Table.{formulaOf};
 ghost use Rattle.psl.specs.Parts.{booleanAt, formulaAt};
 ghost use Rattle.psl.specs.Check.{pslRefusal};

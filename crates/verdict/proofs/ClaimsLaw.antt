@@ -5,14 +5,14 @@ use mathlib.Core.Option.{Option, none, some}
 use mathlib.Core.List.{List}
 use Prim.Native.Nat.{ℕ, _<_}
 use borrow.Author.Tests.{lt-ltb}
-use Rattle.trace.specs.Moments.{size}
+use Rattle.logic.specs.Trace.{size}
 use Rattle.trace.specs.declared.Refusal.{Refusal}
 use Rattle.table.specs.Check.{orElse}
 use Rattle.table.proofs.CheckLaw.{some-none}
-use Rattle.psl.specs.Meaning.{HoldsOn}
+use Rattle.logic.specs.Meaning.{HoldsOn}
 use Rattle.psl.specs.Table.{formulaOf}
 use Rattle.psl.specs.Check.{pslRefusal}
-use Rattle.ltl.specs.Meaning.{LtlHoldsOn}
+use Rattle.logic.specs.LtlMeaning.{LtlHoldsOn}
 use Rattle.ltl.specs.Table.{treeOf}
 use Rattle.ltl.specs.Check.{ltlRefusal}
 use Rattle.translate.specs.Emitted.{emitted}

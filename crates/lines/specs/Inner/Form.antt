@@ -5,7 +5,7 @@ use mathlib.Core.List.{List, [], _∷_, _++_}
 use Prim.Native.Nat.{ℕ, zero, suc}
 use lib.ListN.{getD}
 use lib.Dec.{T, eqb, leb}
-use Rattle.trace.specs.Letter.{signals}
+use Rattle.logic.specs.Letter.{signals}
 use Rattle.table.specs.Node.{Node, node, _▸_, last}
 use Rattle.lines.specs.declared.formula.Shape.{Shape}
 use Rattle.lines.specs.Text.{text}

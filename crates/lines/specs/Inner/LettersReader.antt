@@ -6,7 +6,7 @@ use Prim.Native.Nat.{ℕ, _+_, _^_, _≤_}
 use lib.ListN.{length, set, drop}
 use lib.Seq.{sets}
 use lib.Dec.{leb}
-use Rattle.trace.specs.Letter.{signals}
+use Rattle.logic.specs.Letter.{signals}
 use Rattle.lines.specs.Text.{text}
 use Rattle.lines.specs.Spelling.{digits, ending, inside, traceLine}
 use Rattle.lines.specs.Inner.Places.{Language, Stands, Halts, Stops, StopsLine}

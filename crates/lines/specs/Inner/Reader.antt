@@ -8,7 +8,7 @@ use lib.ListN.{length, drop}
 use lib.Seq.{sets}
 use lib.Dec.{T}
 use Rattle.table.specs.Node.{Node, numbersOf}
-use Rattle.psl.specs.Formula.{Formula}
+use Rattle.logic.specs.Formula.{Formula}
 use Rattle.lines.specs.Text.{text}
 use Rattle.lines.specs.Spelling.{formulaLine}
 use Rattle.lines.specs.Closing.{table}

@@ -4,7 +4,7 @@ use mathlib.Core.Path.{_≡_, refl}
 use Prim.Native.Nat.{ℕ, zero, suc, _<_}
 use native.Mathlib.Omega.{arith}
 use Rattle.table.specs.Node.{node}
-use Rattle.ltl.specs.Tree.{Ltl, ltrue}
+use Rattle.logic.specs.Tree.{Ltl, ltrue}
 use Rattle.ltl.specs.Table.{treeOfNode}
 use Rattle.rows.proofs.RowLaw.{tells-true}
 use Rattle.rows.proofs.node_row.Statement.{statement}

@@ -3,7 +3,8 @@ use borrow.Author.Needs.{needs}
 use mathlib.Core.Path.{sym, ap, subst, _∙_}
 use Prim.Native.Nat.{ℕ, _+_, _-_, _%_, _^_}
 use lib.Bits.{bitAnd, bitOr}
-use Rattle.trace.specs.Letter.{bit, mostLetters}
+use Rattle.logic.specs.Letter.{bit}
+use Rattle.trace.specs.Limits.{mostLetters}
 use Rattle.rows.specs.Rows.{Swept}
 use Rattle.rows.proofs.CarryLaw.{swept}
 use Rattle.rows.proofs.sweep.Statement.{statement}

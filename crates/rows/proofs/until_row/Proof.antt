@@ -4,7 +4,7 @@ use mathlib.Core.Path.{_≡_, sym, subst, _∙_}
 use Prim.Native.Nat.{ℕ, _-_, _/_, _%_, _^_}
 use native.Mathlib.Omega.{arith}
 use lib.ListN.{length}
-use Rattle.trace.specs.Letter.{bit}
+use Rattle.logic.specs.Letter.{bit}
 use Rattle.rows.specs.Rows.{Swept}
 use Rattle.rows.proofs.UntilLaw.{tells-until-once, tells-until-twice}
 use Rattle.rows.proofs.until_row.Statement.{statement}

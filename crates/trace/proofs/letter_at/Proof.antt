@@ -5,7 +5,7 @@ use mathlib.Core.Path.{_≡_}
 use mathlib.Core.List.{List}
 use Prim.Native.Nat.{ℕ, _-_, _*_, _%_, _^_, _<_}
 use lib.ListN.{length}
-use Rattle.trace.proofs.MomentsLaw.{letter-lead, letter-loop, letter-none}
+use Rattle.logic.proofs.MomentsLaw.{letter-lead, letter-loop, letter-none}
 use Rattle.trace.proofs.letter_at.Statement.{statement}
 use Rattle.trace.proofs.letter_at.Tie as tie
 

@@ -6,7 +6,7 @@ use mathlib.Core.List.{List}
 use Prim.Native.Nat.{ℕ, _+_, _*_, _-_, _≤_, _<_, min}
 use lib.ListN.{length, take, drop, length-drop, drop-of-length-le}
 use lib.Seq.{take-all, drop-length}
-use Rattle.trace.specs.Moments.{restOf, restStart}
+use Rattle.trace.specs.Answer.{restOf, restStart}
 use Rattle.trace.proofs.rest.Statement.{statement}
 use Rattle.trace.proofs.rest.Tie as tie
 

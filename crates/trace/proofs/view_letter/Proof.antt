@@ -40,7 +40,8 @@ use denote.Triple.Table.{entered, cited}
 use denote.Triple.Walked.{says, Stays, stay-none, walkOf, goes-none, Walks, ends-at, walked, walk-meets}
 use denote.Exit.{yes}
 use denote.Triple.Clauses.{ensured, lasts}
-use Rattle.trace.specs.Moments.{letterAt, found}
+use Rattle.logic.specs.Trace.{letterAt}
+use Rattle.trace.specs.Answer.{found}
 use Rattle.trace.specs.declared.TraceView.{TraceView}
 use Rattle.trace.specs.declared.Moment.{Moment}
 use Rattle.trace.specs.declared.Found.{Found}

@@ -6,7 +6,7 @@ use Prim.Native.Nat.{ℕ, _<_}
 use Rattle.table.specs.Node.{kindAt, leftAt, rightAt}
 use Rattle.psl.specs.Parts.{booleanAt, formulaAt}
 use Rattle.psl.proofs.AcceptedLaw.{kind-known, is-not, is-and, is-next, is-until, is-abort}
-use Rattle.translate.specs.Translation.{treeB, translated}
+use Rattle.logic.specs.Translation.{treeB, translated}
 use Rattle.rows.proofs.RowLaw.{tells-not, tells-and}
 use Rattle.verdict.proofs.ArmLaw.{as-formula, tells-literal}
 use borrow.Fn.Kinds.{In}

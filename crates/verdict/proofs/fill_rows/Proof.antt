@@ -5,11 +5,11 @@ use mathlib.Core.Path.{_≡_, refl, sym, subst, _∙_}
 use mathlib.Core.Logic.{⊎-elim}
 use Prim.Native.Nat.{ℕ, _+_, _-_, _≤_, _<_}
 use lib.ListN.{length, getD, set, length-set}
-use Rattle.trace.specs.Letter.{signals}
+use Rattle.logic.specs.Letter.{signals}
 use Rattle.table.specs.Node.{nodesOf, count, kindAt, leftAt, rightAt}
 use Rattle.table.proofs.NodeLaw.{length-nodes, node-at}
 use Rattle.ltl.proofs.AcceptedLaw.{some-node, is-var, both-below, operands-below}
-use Rattle.ltl.specs.Tree.{lvar}
+use Rattle.logic.specs.Tree.{lvar}
 use Rattle.ltl.specs.Table.{treeOf}
 use Rattle.rows.specs.Rows.{Tells, TellsNode, Known}
 use Rattle.rows.proofs.SignalLaw.{known-none}

@@ -6,7 +6,7 @@ use Prim.Native.Nat.{_-_}
 use Rattle.table.specs.Node.{count}
 use Rattle.psl.specs.Parts.{formulaAt}
 use Rattle.psl.proofs.AcceptedLaw.{some-node, most-nodes, root-formula}
-use Rattle.translate.specs.Translation.{translated, nothing}
+use Rattle.logic.specs.Translation.{translated, falsum}
 use Rattle.rows.specs.Rows.{Few}
 use Rattle.rows.proofs.RowLaw.{tells-false}
 use Rattle.verdict.proofs.HoldsLaw.{holds-none, holds-some}
@@ -54,7 +54,7 @@ returns-2 c =
     let m = st .args .cycle .now in
     let few : Few l m = record { some = omega (arith, el .if1 .left); most = omega (arith, st .pre .1) } in
     holds-some t l m (c .at-first .result) few
-    (c .at-first .ensures l m (translated (formulaAt t (count t - 1)) nothing nothing) few refl (F .formula-row .ensures l m few refl (s .signal-rows .ensures) nothing nothing (tells-false few) (tells-false few)))
+    (c .at-first .ensures l m (translated (formulaAt t (count t - 1)) falsum falsum) few refl (F .formula-row .ensures l m few refl (s .signal-rows .ensures) falsum falsum (tells-false few) (tells-false few)))
 
 pub psl-holds-spec : {M : Type 1} → statement M
 psl-holds-spec =

@@ -1,0 +1,14 @@
+pub mod TestLaw
+pub mod BitLaw
+pub mod MomentsLaw
+pub mod WordLaw
+pub mod OrderLaw
+pub mod EndLaw
+pub mod EmptyLaw
+pub mod KnownVerdictsLaw
+pub mod BorderFactsLaw
+pub mod StepLaw
+pub mod MarkedLaw
+pub mod KeepsLaw
+pub mod TranslationLaw
+pub mod ClaimsLaw
