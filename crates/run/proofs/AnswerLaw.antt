@@ -30,16 +30,18 @@ use Rattle.verdict.specs.Verdict.{Judges, PslJudges, LtlJudges}
 use Rattle.verdict.specs.declared.Verdict.{Verdict}
 use Rattle.verdict.specs.declared.Verdict.the-variants as Verdict
 use Rattle.verdict.proofs.JudgesLaw.{psl-fine, ltl-fine, ltl-empty}
-use Rattle.lines.specs.Spelling.{formulaLine, Trace, lineOfTrace}
-use Rattle.lines.specs.Closing.{table}
-use Rattle.lines.specs.Reading.{Takes, Refuses}
-use Rattle.lines.specs.FormulaAnswer.{formulaLimits, FormulaAnswer}
-use Rattle.lines.specs.TraceAnswer.{traceLimits, TraceAnswer}
-use Rattle.lines.specs.declared.formula.Line.the-variants as Line
-use Rattle.lines.specs.declared.traces.TraceLine.the-variants as TraceLine
-use Rattle.lines.proofs.ReadingLaw.{takes-by, refuses-by, front-take, front-length}
-use Rattle.lines.proofs.LimitsLaw.{limits-few, limits-accepted, formula-room, limits-short, trace-room}
-use Rattle.lines.proofs.TableLaw.{table-formula}
+use Rattle.formula_lines.specs.Spelling.{formulaLine}
+use Rattle.trace_lines.specs.Spelling.{Trace, lineOfTrace}
+use Rattle.formula_lines.specs.Closing.{table}
+use Rattle.text.specs.Reading.{Takes, Refuses}
+use Rattle.formula_lines.specs.FormulaAnswer.{formulaLimits, FormulaAnswer}
+use Rattle.trace_lines.specs.TraceAnswer.{traceLimits, TraceAnswer}
+use Rattle.formula_lines.specs.declared.Line.the-variants as Line
+use Rattle.trace_lines.specs.declared.TraceLine.the-variants as TraceLine
+use Rattle.text.proofs.ReadingLaw.{takes-by, refuses-by, front-take, front-length}
+use Rattle.formula_lines.proofs.LimitsLaw.{limits-few, limits-accepted, formula-room}
+use Rattle.trace_lines.proofs.LimitsLaw.{limits-short, trace-room}
+use Rattle.formula_lines.proofs.TableLaw.{table-formula}
 use Rattle.run.specs.Whole.{Tells, LaterAnswer}
 use Rattle.run.specs.Inner.{TablesOf, Accepted, FirstAnswer}
 use Rattle.run.specs.declared.First.the-variants as First

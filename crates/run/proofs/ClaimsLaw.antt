@@ -14,13 +14,14 @@ use Rattle.translate.specs.Emitted.{emitted}
 use Rattle.translate.proofs.TranslatesLaw.{translates}
 use Rattle.verdict.specs.declared.Verdict.{Verdict}
 use Rattle.verdict.specs.declared.Verdict.the-variants as Verdict
-use Rattle.lines.specs.Text.{text}
-use Rattle.lines.specs.Spelling.{formulaLine, Trace, lineOfTrace}
-use Rattle.lines.specs.FormulaAnswer.{formulaLimits}
-use Rattle.lines.specs.TraceAnswer.{traceLimits}
-use Rattle.lines.proofs.ReadingLaw.{taken-alone, not-both, refused-alone}
-use Rattle.lines.proofs.FormulaLaw.{formula-injective}
-use Rattle.lines.proofs.TraceLaw.{trace-alone}
+use Rattle.text.specs.Text.{text}
+use Rattle.formula_lines.specs.Spelling.{formulaLine}
+use Rattle.trace_lines.specs.Spelling.{Trace, lineOfTrace}
+use Rattle.formula_lines.specs.FormulaAnswer.{formulaLimits}
+use Rattle.trace_lines.specs.TraceAnswer.{traceLimits}
+use Rattle.text.proofs.ReadingLaw.{taken-alone, not-both, refused-alone}
+use Rattle.formula_lines.proofs.FormulaLaw.{formula-injective}
+use Rattle.trace_lines.proofs.TraceLaw.{trace-alone}
 use Rattle.run.specs.Claims.{Claims}
 use Rattle.run.specs.Input.{inputLines}
 use Rattle.run.specs.Printed.{refusedText, verdictText, tableText}

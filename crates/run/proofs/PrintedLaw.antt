@@ -9,11 +9,13 @@ use Rattle.trace.specs.declared.Refusal.{Refusal}
 use Rattle.table.specs.Node.{count, kindAt, leftAt, rightAt, nodeAt}
 use Rattle.verdict.specs.declared.Verdict.{Verdict}
 use Rattle.verdict.specs.declared.Verdict.the-variants as Verdict
-use Rattle.lines.specs.Text.{text}
-use Rattle.lines.specs.Spelling.{digits, nodeLine}
-use Rattle.lines.specs.Inner.Writer.{Wrote}
-use Rattle.lines.proofs.NumberLaw.{digits-short}
-use Rattle.lines.proofs.WriterLaw.{wrote-join, wrote-none, line-length}
+use Rattle.text.specs.Text.{text}
+use Rattle.text.specs.Spelling.{digits}
+use Rattle.node_lines.specs.Spelling.{nodeLine}
+use Rattle.text.specs.Inner.Writer.{Wrote}
+use Rattle.text.proofs.NumberLaw.{digits-short}
+use Rattle.text.proofs.WriterLaw.{wrote-join, wrote-none}
+use Rattle.node_lines.proofs.WriterLaw.{line-length}
 use Rattle.run.specs.Printed.{refusedText, verdictText, traceText, nodeLines, tableText}
 
 refused-bytes : (line : ℕ) (x : Refusal) → refusedText line x ≡ text "(refused " ++ (digits line ++ (text " " ++ (digits (x .0) ++ text ")\n")))

@@ -13,9 +13,9 @@ use lib.Seq.{sets-eq, take-at, take-all, take-suc-set, take-append-le, length-ta
 use Rattle.table.specs.Node.{_▸_}
 use Rattle.psl.specs.Formula.{Formula}
 use Rattle.translate.specs.Emitted.{emitted}
-use Rattle.lines.specs.Inner.Writer.{Wrote}
-use Rattle.lines.proofs.ReadingLaw.{takes-cut, refuses-cut}
-use Rattle.lines.proofs.WriterLaw.{wrote-room, wrote-fits}
+use Rattle.text.specs.Inner.Writer.{Wrote}
+use Rattle.text.proofs.ReadingLaw.{takes-cut, refuses-cut}
+use Rattle.text.proofs.WriterLaw.{wrote-room, wrote-fits}
 use Rattle.run.specs.Input.{endedAfter, openAfter, endedLines, openLine, inputLines}
 use Rattle.run.specs.Printed.{tableText}
 use Rattle.run.specs.Whole.{LaterAnswer, laterText, PrintsTraces, Prints, Runs}

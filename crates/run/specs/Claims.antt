@@ -8,8 +8,8 @@ use lib.ListN.{take}
 use Rattle.trace.specs.Moments.{size}
 use Rattle.psl.specs.Formula.{Formula}
 use Rattle.verdict.specs.declared.Verdict.{Verdict}
-use Rattle.lines.specs.Text.{text}
-use Rattle.lines.specs.Spelling.{Trace}
+use Rattle.text.specs.Text.{text}
+use Rattle.trace_lines.specs.Spelling.{Trace}
 use Rattle.run.specs.Printed.{verdictText}
 use Rattle.run.specs.Whole.{Judged, Runs}
 use Rattle.run.specs.Inner.{Advanced, Ends, Turns}

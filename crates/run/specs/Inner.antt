@@ -10,12 +10,12 @@ use Rattle.psl.specs.Formula.{Formula}
 use Rattle.psl.specs.Check.{pslRules, pslRefusal}
 use Rattle.ltl.specs.Check.{ltlRules, ltlRefusal}
 use Rattle.translate.specs.Emitted.{emitted}
-use Rattle.lines.specs.Spelling.{formulaLine}
-use Rattle.lines.specs.Closing.{table}
-use Rattle.lines.specs.Limits.{mostBytes}
-use Rattle.lines.specs.Reading.{Takes, Refuses}
-use Rattle.lines.specs.FormulaAnswer.{formulaLimits}
-use Rattle.lines.specs.Inner.Writer.{Wrote}
+use Rattle.formula_lines.specs.Spelling.{formulaLine}
+use Rattle.formula_lines.specs.Closing.{table}
+use Rattle.text.specs.Limits.{mostBytes}
+use Rattle.text.specs.Reading.{Takes, Refuses}
+use Rattle.formula_lines.specs.FormulaAnswer.{formulaLimits}
+use Rattle.text.specs.Inner.Writer.{Wrote}
 use Rattle.run.specs.Input.{endedLines, openLine}
 use Rattle.run.specs.Printed.{refusedText, tableText}
 use Rattle.run.specs.Whole.{LaterAnswer, laterText, PrintsTraces, Runs}

@@ -5,8 +5,9 @@ use Rattle.trace.specs.declared.Refusal.{Refusal}
 use Rattle.table.specs.Node.{count, nodeAt}
 use Rattle.verdict.specs.declared.Verdict.{Verdict}
 use Rattle.verdict.specs.declared.Verdict.the-variants as Verdict
-use Rattle.lines.specs.Text.{text}
-use Rattle.lines.specs.Spelling.{digits, brackets, nodeLine}
+use Rattle.text.specs.Text.{text}
+use Rattle.text.specs.Spelling.{digits, brackets}
+use Rattle.node_lines.specs.Spelling.{nodeLine}
 
 -- `(refused L R)`: the line's number and the refusal.
 unfoldable pub refusedText : ℕ → Refusal → List ℕ

@@ -13,10 +13,11 @@ use Rattle.ltl.specs.Table.{treeOf}
 use Rattle.translate.specs.Emitted.{emitted}
 use Rattle.verdict.specs.declared.Verdict.{Verdict}
 use Rattle.verdict.specs.declared.Verdict.the-variants as Verdict
-use Rattle.lines.specs.Spelling.{formulaLine, Trace, lineOfTrace}
-use Rattle.lines.specs.Reading.{Takes, Refuses}
-use Rattle.lines.specs.FormulaAnswer.{formulaLimits}
-use Rattle.lines.specs.TraceAnswer.{traceLimits}
+use Rattle.formula_lines.specs.Spelling.{formulaLine}
+use Rattle.trace_lines.specs.Spelling.{Trace, lineOfTrace}
+use Rattle.text.specs.Reading.{Takes, Refuses}
+use Rattle.formula_lines.specs.FormulaAnswer.{formulaLimits}
+use Rattle.trace_lines.specs.TraceAnswer.{traceLimits}
 use Rattle.run.specs.Input.{inputLines}
 use Rattle.run.specs.Printed.{refusedText, traceText, tableText}
 use Rattle.run.specs.declared.Later.{Later}

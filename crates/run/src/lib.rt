@@ -1,15 +1,15 @@
 // What a run answers to its lines: the first is a formula, each later one a trace.
+mod print;
 pub mod stream;
-mod text;
 
 ghost use mathlib.Core.Path.{_≡_};
 ghost use lib.ListN.{length};
 ghost use Rattle.psl.specs.Formula.{Formula};
 ghost use Rattle.run.specs.Whole.{LaterAnswer};
 ghost use Rattle.run.specs.Inner.{TablesOf, Accepted, FirstAnswer};
-use lines::formula::Line;
-use lines::traces::TraceLine;
+use formula_lines::Line;
 use trace::Refusal;
+use trace_lines::TraceLine;
 use translate::Translation;
 use verdict::Verdict;
 
@@ -30,7 +30,7 @@ fn first_line(line: &[u8], psl: &mut [u16], ltl: &mut [u16]) -> First
     requires { ⌜ (length (now psl) ≡ 3072) × (length (now ltl) ≡ 12288) ⌝ }
     ensures { λ r. ⌜ FirstAnswer (now (line .entry)) r (now (psl .exit)) (now (ltl .exit)) ⌝ }
 {
-    match lines::formula::read_formula(line, psl) {
+    match formula_lines::read_formula(line, psl) {
         Line::Refused(x) => First::Refused(x),
         Line::Nodes(nodes) => {
             let end = 3 * nodes;
@@ -49,7 +49,7 @@ fn later_line(line: &[u8], psl: &[u16], ltl: &[u16]) -> Later
 {
     let mut lead = [0u32; 64];
     let mut cycle = [0u32; 64];
-    match lines::traces::read_trace(line, &mut lead, &mut cycle) {
+    match trace_lines::read_trace(line, &mut lead, &mut cycle) {
         TraceLine::Refused(x) => Later::Refused(x),
         TraceLine::Letters { lead: a, cycle: b } => Later::Verdicts(
             verdict::judge_psl(psl, &lead[..a], &cycle[..b]),

@@ -4,8 +4,8 @@ use native.Mathlib.Omega.{arith}
 use Prim.Native.Nat.{_*_}
 use lib.ListN.{take}
 use lib.Seq.{length-take-le}
-use Rattle.lines.specs.FormulaAnswer.{FormulaAnswer}
-use Rattle.lines.specs.declared.formula.Line.{Line}
+use Rattle.formula_lines.specs.FormulaAnswer.{FormulaAnswer}
+use Rattle.formula_lines.specs.declared.Line.{Line}
 use Rattle.translate.specs.Answer.{Delivers}
 use Rattle.translate.specs.declared.Translation.{Translation}
 use Rattle.run.proofs.AnswerLaw.{first-refused, first-few, first-translated, first-tables}

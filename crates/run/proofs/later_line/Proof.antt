@@ -1,8 +1,8 @@
 -- `run::later_line` meets its contract: the trace read, then both verdicts.
 use mathlib.Core.Path.{sym, subst}
 use lib.Seq.{length-take-le}
-use Rattle.lines.specs.TraceAnswer.{TraceAnswer}
-use Rattle.lines.specs.declared.traces.TraceLine.{TraceLine}
+use Rattle.trace_lines.specs.TraceAnswer.{TraceAnswer}
+use Rattle.trace_lines.specs.declared.TraceLine.{TraceLine}
 use Rattle.run.proofs.AnswerLaw.{room, later-refused, letters-few, later-judged}
 use borrow.Author.Needs.{needs}
 use Rattle.run.proofs.later_line.Statement.{statement}
