@@ -24,7 +24,7 @@ use Rattle.formula_lines.proofs.FormulaLaw.{formula-injective}
 use Rattle.trace_lines.proofs.TraceLaw.{trace-alone}
 use Rattle.run.specs.Claims.{Claims}
 use Rattle.run.specs.Input.{inputLines}
-use Rattle.run.specs.Printed.{refusedText, verdictText, tableText}
+use Rattle.printing.specs.Printed.{refusedText, verdictText, tableText}
 use Rattle.run.specs.Whole.{Tells, Judged, LaterAnswer, laterText, PrintsTraces, Prints}
 use Rattle.run.specs.declared.Later.{Later}
 use Rattle.run.specs.declared.Later.the-variants as Later

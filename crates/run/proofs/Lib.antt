@@ -1,5 +1,4 @@
 -- Laws that the proofs share.
-pub mod PrintedLaw
 pub mod CutLaw
 pub mod AnswerLaw
 pub mod ProgressLaw

@@ -17,7 +17,7 @@ use Rattle.text.specs.Inner.Writer.{Wrote}
 use Rattle.text.proofs.ReadingLaw.{takes-cut, refuses-cut}
 use Rattle.text.proofs.WriterLaw.{wrote-room, wrote-fits}
 use Rattle.run.specs.Input.{endedAfter, openAfter, endedLines, openLine, inputLines}
-use Rattle.run.specs.Printed.{tableText}
+use Rattle.printing.specs.Printed.{tableText}
 use Rattle.run.specs.Whole.{LaterAnswer, laterText, PrintsTraces, Prints, Runs}
 use Rattle.run.specs.Inner.{FirstAnswer, keptBytes, Told, Going, At, firstText, Remembers, FirstDone, LaterDone, Keeps}
 use Rattle.run.specs.declared.First.{First}

@@ -15,7 +15,7 @@ use Rattle.table.specs.Node.{_▸_}
 use Rattle.psl.specs.Formula.{Formula}
 use Rattle.verdict.specs.declared.Verdict.{Verdict}
 use Rattle.text.specs.Inner.Writer.{Wrote}
-use Rattle.run.specs.Printed.{refusedText, traceText, tableText}
+use Rattle.printing.specs.Printed.{refusedText, traceText, tableText}
 use Rattle.run.specs.Whole.{LaterAnswer, Runs}
 use Rattle.run.specs.Inner.{TablesOf, FirstAnswer, Going, At, longest, shortest, mostBlock, Within, Gathered, Remembers, FirstDone, LaterDone, LineDone, Keeps, Fed, Finished, Ends, Advanced, start, Turns, no-turn, one-turn, idle, stopped, Turned}
 use Rattle.run.specs.declared.First.{First}

@@ -10,7 +10,7 @@ use Rattle.psl.specs.Formula.{Formula}
 use Rattle.verdict.specs.declared.Verdict.{Verdict}
 use Rattle.text.specs.Text.{text}
 use Rattle.trace_lines.specs.Spelling.{Trace}
-use Rattle.run.specs.Printed.{verdictText}
+use Rattle.printing.specs.Printed.{verdictText}
 use Rattle.run.specs.Whole.{Judged, Runs}
 use Rattle.run.specs.Inner.{Advanced, Ends, Turns}
 use Rattle.run.specs.declared.stream.State.{State}

@@ -17,7 +17,7 @@ use Rattle.text.specs.Reading.{Takes, Refuses}
 use Rattle.formula_lines.specs.FormulaAnswer.{formulaLimits}
 use Rattle.text.specs.Inner.Writer.{Wrote}
 use Rattle.run.specs.Input.{endedLines, openLine}
-use Rattle.run.specs.Printed.{refusedText, tableText}
+use Rattle.printing.specs.Printed.{refusedText, tableText}
 use Rattle.run.specs.Whole.{LaterAnswer, laterText, PrintsTraces, Runs}
 use Rattle.run.specs.declared.First.{First}
 use Rattle.run.specs.declared.First.the-variants as First

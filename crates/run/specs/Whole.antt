@@ -19,7 +19,7 @@ use Rattle.text.specs.Reading.{Takes, Refuses}
 use Rattle.formula_lines.specs.FormulaAnswer.{formulaLimits}
 use Rattle.trace_lines.specs.TraceAnswer.{traceLimits}
 use Rattle.run.specs.Input.{inputLines}
-use Rattle.run.specs.Printed.{refusedText, traceText, tableText}
+use Rattle.printing.specs.Printed.{refusedText, traceText, tableText}
 use Rattle.run.specs.declared.Later.{Later}
 use Rattle.run.specs.declared.Later.the-variants as Later
 

@@ -1,5 +1,4 @@
 // What a run answers to its lines: the first is a formula, each later one a trace.
-mod print;
 pub mod stream;
 
 ghost use mathlib.Core.Path.{_≡_};

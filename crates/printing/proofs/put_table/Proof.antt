@@ -5,11 +5,11 @@ use Prim.Native.Nat.{_≤_, _-_, _%_}
 use lib.ListN.{length}
 use Rattle.text.specs.Inner.Writer.{Wrote}
 use Rattle.text.proofs.WriterLaw.{wrote-end}
-use Rattle.run.specs.Printed.{nodeLines}
-use Rattle.run.proofs.PrintedLaw.{no-lines, line-more, table-wrote, table-short}
+use Rattle.printing.specs.Printed.{nodeLines}
+use Rattle.printing.proofs.PrintedLaw.{no-lines, line-more, table-wrote, table-short}
 use borrow.Author.Needs.{needs}
-use Rattle.run.proofs.print.put_table.Statement.{statement}
-use Rattle.run.proofs.print.put_table.Tie as tie
+use Rattle.printing.proofs.put_table.Statement.{statement}
+use Rattle.printing.proofs.put_table.Tie as tie
 
 abbrev Inv-loop : tie.InvT-loop
 Inv-loop out₀ at t nodes a b to₀ i₀ out to i = (i ≤ nodes) × (length out ≡ length out₀) × Wrote (nodeLines t i) out₀ out to₀ to

@@ -4,11 +4,11 @@ use native.Mathlib.Omega.{arith}
 use Rattle.verdict.specs.declared.Verdict.{Verdict}
 use Rattle.text.specs.Inner.Writer.{Wrote}
 use Rattle.text.proofs.WriterLaw.{wrote-end}
-use Rattle.run.specs.Printed.{verdictText}
-use Rattle.run.proofs.PrintedLaw.{verdict-short}
+use Rattle.printing.specs.Printed.{verdictText}
+use Rattle.printing.proofs.PrintedLaw.{verdict-short}
 use borrow.Author.Needs.{needs}
-use Rattle.run.proofs.print.put_verdict.Statement.{statement}
-use Rattle.run.proofs.print.put_verdict.Tie as tie
+use Rattle.printing.proofs.put_verdict.Statement.{statement}
+use Rattle.printing.proofs.put_verdict.Tie as tie
 
 enum-told : tie.Need-enum-told
 enum-told c = search needs

@@ -7,7 +7,7 @@ use verdict::Verdict;
 ghost use Prim.Native.Nat.{_+_, _≤_};
 ghost use lib.ListN.{length};
 ghost use Rattle.text.specs.Inner.Writer.{Wrote};
-ghost use Rattle.run.specs.Printed.{refusedText, verdictText, traceText, tableText};
+ghost use Rattle.printing.specs.Printed.{refusedText, verdictText, traceText, tableText};
 
 // `(refused L R)`
 pub fn put_refused(out: &mut [u8], at: usize, line: u64, x: Refusal) -> usize

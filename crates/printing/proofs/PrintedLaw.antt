@@ -16,7 +16,7 @@ use Rattle.text.specs.Inner.Writer.{Wrote}
 use Rattle.text.proofs.NumberLaw.{digits-short}
 use Rattle.text.proofs.WriterLaw.{wrote-join, wrote-none}
 use Rattle.node_lines.proofs.WriterLaw.{line-length}
-use Rattle.run.specs.Printed.{refusedText, verdictText, traceText, nodeLines, tableText}
+use Rattle.printing.specs.Printed.{refusedText, verdictText, traceText, nodeLines, tableText}
 
 refused-bytes : (line : ℕ) (x : Refusal) → refusedText line x ≡ text "(refused " ++ (digits line ++ (text " " ++ (digits (x .0) ++ text ")\n")))
 unfolding refusedText
