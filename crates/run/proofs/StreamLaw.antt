@@ -16,12 +16,14 @@ use Rattle.psl.specs.Formula.{Formula}
 use Rattle.verdict.specs.declared.Verdict.{Verdict}
 use Rattle.text.specs.Inner.Writer.{Wrote}
 use Rattle.printing.specs.Printed.{refusedText, traceText, tableText}
-use Rattle.run.specs.Whole.{LaterAnswer, Runs}
-use Rattle.run.specs.Inner.{TablesOf, FirstAnswer, Going, At, longest, shortest, mostBlock, Within, Gathered, Remembers, FirstDone, LaterDone, LineDone, Keeps, Fed, Finished, Ends, Advanced, start, Turns, no-turn, one-turn, idle, stopped, Turned}
-use Rattle.run.specs.declared.First.{First}
-use Rattle.run.specs.declared.First.the-variants as First
-use Rattle.run.specs.declared.Later.{Later}
-use Rattle.run.specs.declared.Later.the-variants as Later
+use Rattle.answers.specs.Answer.{LaterAnswer}
+use Rattle.run.specs.Whole.{Runs}
+use Rattle.answers.specs.Inner.{TablesOf, FirstAnswer}
+use Rattle.run.specs.Inner.{Going, At, longest, shortest, mostBlock, Within, Gathered, Remembers, FirstDone, LaterDone, LineDone, Keeps, Fed, Finished, Ends, Advanced, start, Turns, no-turn, one-turn, idle, stopped, Turned}
+use Rattle.answers.specs.declared.First.{First}
+use Rattle.answers.specs.declared.First.the-variants as First
+use Rattle.answers.specs.declared.Later.{Later}
+use Rattle.answers.specs.declared.Later.the-variants as Later
 use Rattle.run.specs.declared.stream.State.{State}
 use Rattle.run.proofs.ProgressLaw.{going-start, going-same, going-byte, at-first, going-later, end-empty, end-open}
 

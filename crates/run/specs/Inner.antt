@@ -1,46 +1,28 @@
 -- What the inner functions of a run promise: read this after `Whole`.
 use mathlib.Core.Path.{_≡_}
 use mathlib.Core.Bool.{true, false}
-use mathlib.Core.Option.{none}
 use mathlib.Core.List.{List, [], _∷_, _++_}
 use Prim.Native.Nat.{ℕ, _+_, _*_, _-_, _≤_, _<_}
 use lib.ListN.{length, take, set}
-use Rattle.table.specs.Node.{numbersOf, _▸_}
+use Rattle.table.specs.Node.{_▸_}
 use Rattle.psl.specs.Formula.{Formula}
-use Rattle.psl.specs.Check.{pslRules, pslRefusal}
-use Rattle.ltl.specs.Check.{ltlRules, ltlRefusal}
+use Rattle.psl.specs.Check.{pslRules}
+use Rattle.ltl.specs.Check.{ltlRules}
 use Rattle.translate.specs.Emitted.{emitted}
 use Rattle.formula_lines.specs.Spelling.{formulaLine}
-use Rattle.formula_lines.specs.Closing.{table}
 use Rattle.text.specs.Limits.{mostBytes}
-use Rattle.text.specs.Reading.{Takes, Refuses}
+use Rattle.text.specs.Reading.{Takes}
 use Rattle.formula_lines.specs.FormulaAnswer.{formulaLimits}
 use Rattle.text.specs.Inner.Writer.{Wrote}
 use Rattle.run.specs.Input.{endedLines, openLine}
 use Rattle.printing.specs.Printed.{refusedText, tableText}
-use Rattle.run.specs.Whole.{LaterAnswer, laterText, PrintsTraces, Runs}
-use Rattle.run.specs.declared.First.{First}
-use Rattle.run.specs.declared.First.the-variants as First
-use Rattle.run.specs.declared.Later.{Later}
+use Rattle.answers.specs.Answer.{LaterAnswer}
+use Rattle.answers.specs.Inner.{TablesOf, FirstAnswer}
+use Rattle.run.specs.Whole.{laterText, PrintsTraces, Runs}
+use Rattle.answers.specs.declared.First.{First}
+use Rattle.answers.specs.declared.First.the-variants as First
+use Rattle.answers.specs.declared.Later.{Later}
 use Rattle.run.specs.declared.stream.State.{State}
-
--- ── The two tables ──
-
--- The PSL and the LTL table of a formula that is within the limits.
-pub record TablesOf (f : Formula) (psl ltl : List ℕ) : Type 0 where
-  pub limits : formulaLimits f ≡ none
-  pub read : psl ≡ numbersOf (table f)
-  pub translated : ltl ≡ emitted f
-
--- Both tables pass their check.
-abbrev pub Accepted : List ℕ → List ℕ → Type 0
-Accepted psl ltl = (pslRefusal psl ≡ none) × (ltlRefusal ltl ≡ none)
-
--- Line 1: the tables of its formula stand at the front of two lists, n and s nodes; or its refusal.
-abbrev pub FirstAnswer : List ℕ → First → List ℕ → List ℕ → Type 0
-FirstAnswer line (First.Tables n s) psl ltl =
-    (f : Formula) × Takes formulaLine formulaLimits line f × TablesOf f (take (3 * n) psl) (take (3 * s) ltl) × (n ≤ pslRules .most) × (s ≤ ltlRules .most)
-FirstAnswer line (First.Refused x) psl ltl = Refuses formulaLine formulaLimits line x
 
 -- ── Where a run stands between two bytes of its input ──
 

@@ -1,8 +1,8 @@
 // A run as a stream of bytes: lines are cut off, answered, and the answers gathered.
-use crate::First;
-use crate::Later;
-use crate::first_line;
-use crate::later_line;
+use answers::First;
+use answers::Later;
+use answers::first_line;
+use answers::later_line;
 use libc::STDERR_FILENO;
 use libc::STDIN_FILENO;
 use libc::STDOUT_FILENO;
@@ -14,7 +14,8 @@ ghost use mathlib.Core.Logic.{_⊎_};
 ghost use mathlib.Core.Bool.{true, false};
 ghost use Prim.Native.Nat.{_+_, _<_, _≤_};
 ghost use lib.ListN.{length};
-ghost use Rattle.run.specs.Inner.{Accepted, longest, mostBlock, mostGathered, mostLines, Within, Gathered, FirstDone, LaterDone, LineDone, Keeps, Fed, Finished, Advanced, idle, stopped, Turned};
+ghost use Rattle.answers.specs.Inner.{Accepted};
+ghost use Rattle.run.specs.Inner.{longest, mostBlock, mostGathered, mostLines, Within, Gathered, FirstDone, LaterDone, LineDone, Keeps, Fed, Finished, Advanced, idle, stopped, Turned};
 
 // A line's bytes that are kept: one more than a line may have, so that a longer one is seen to be.
 const KEPT: usize = 16385;

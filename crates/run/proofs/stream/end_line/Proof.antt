@@ -2,7 +2,7 @@
 use mathlib.Core.Path.{sym}
 use native.Mathlib.Omega.{arith}
 use lib.Seq.{length-take-le}
-use Rattle.run.proofs.AnswerLaw.{tables-accepted}
+use Rattle.answers.proofs.AnswerLaw.{tables-accepted}
 use Rattle.run.proofs.StreamLaw.{line-first, line-later}
 use borrow.Author.Needs.{needs}
 use Rattle.run.proofs.stream.end_line.Statement.{statement}

@@ -1,4 +1,4 @@
--- `run::first_line` meets its contract: neither the reading nor the translation lacks room.
+-- `answers::first_line` meets its contract: neither the reading nor the translation lacks room.
 use mathlib.Core.Path.{sym, subst}
 use native.Mathlib.Omega.{arith}
 use Prim.Native.Nat.{_*_}
@@ -8,10 +8,10 @@ use Rattle.formula_lines.specs.FormulaAnswer.{FormulaAnswer}
 use Rattle.formula_lines.specs.declared.Line.{Line}
 use Rattle.translate.specs.Answer.{Delivers}
 use Rattle.translate.specs.declared.Translation.{Translation}
-use Rattle.run.proofs.AnswerLaw.{first-refused, first-few, first-translated, first-tables}
+use Rattle.answers.proofs.AnswerLaw.{first-refused, first-few, first-translated, first-tables}
 use borrow.Author.Needs.{needs}
-use Rattle.run.proofs.first_line.Statement.{statement}
-use Rattle.run.proofs.first_line.Tie as tie
+use Rattle.answers.proofs.first_line.Statement.{statement}
+use Rattle.answers.proofs.first_line.Tie as tie
 
 read-formula-requires : tie.Need-read-formula-requires
 read-formula-requires c κs = search needs

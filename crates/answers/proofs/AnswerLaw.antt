@@ -42,10 +42,10 @@ use Rattle.text.proofs.ReadingLaw.{takes-by, refuses-by, front-take, front-leng
 use Rattle.formula_lines.proofs.LimitsLaw.{limits-few, limits-accepted, formula-room}
 use Rattle.trace_lines.proofs.LimitsLaw.{limits-short, trace-room}
 use Rattle.formula_lines.proofs.TableLaw.{table-formula}
-use Rattle.run.specs.Whole.{Tells, LaterAnswer}
-use Rattle.run.specs.Inner.{TablesOf, Accepted, FirstAnswer}
-use Rattle.run.specs.declared.First.the-variants as First
-use Rattle.run.specs.declared.Later.the-variants as Later
+use Rattle.answers.specs.Answer.{Tells, LaterAnswer}
+use Rattle.answers.specs.Inner.{TablesOf, Accepted, FirstAnswer}
+use Rattle.answers.specs.declared.First.the-variants as First
+use Rattle.answers.specs.declared.Later.the-variants as Later
 
 -- ── The tables of a formula within the limits ──
 
