@@ -26,7 +26,7 @@ use Rattle.answers.specs.declared.First.{First}
 use Rattle.answers.specs.declared.First.the-variants as First
 use Rattle.answers.specs.declared.Later.{Later}
 use Rattle.answers.specs.declared.Later.the-variants as Later
-use Rattle.run.specs.declared.stream.State.{State}
+use Rattle.run.specs.declared.State.{State}
 use Rattle.run.proofs.CutLaw.{ended-end, open-end, ended-byte, open-byte, first-line-stays, last-ends, only-line, no-last}
 
 -- ── The gathered bytes ──

@@ -14,7 +14,7 @@ use Rattle.printing.specs.Printed.{verdictText}
 use Rattle.answers.specs.Answer.{Judged}
 use Rattle.run.specs.Whole.{Runs}
 use Rattle.run.specs.Inner.{Advanced, Ends, Turns}
-use Rattle.run.specs.declared.stream.State.{State}
+use Rattle.run.specs.declared.State.{State}
 
 pub record Claims : Type 0 where
   -- An input has one output.

@@ -22,7 +22,7 @@ use Rattle.run.specs.Whole.{laterText, PrintsTraces, Runs}
 use Rattle.answers.specs.declared.First.{First}
 use Rattle.answers.specs.declared.First.the-variants as First
 use Rattle.answers.specs.declared.Later.{Later}
-use Rattle.run.specs.declared.stream.State.{State}
+use Rattle.run.specs.declared.State.{State}
 
 -- ── Where a run stands between two bytes of its input ──
 
@@ -156,22 +156,12 @@ pub record Advanced (block line psl ltl : List ℕ) (s r : State) (line′ psl�
 abbrev pub start : State
 start = record { number = 1; filled = 0; nodes = 0; size = 0; gathered = 0; more = true; failed = false }
 
+-- Nothing is gathered.
+abbrev pub idle : State → State
+idle s = record { number = s .number; filled = s .filled; nodes = s .nodes; size = s .size; gathered = 0; more = s .more; failed = s .failed }
+
 -- Turns from the start on: the blocks that were taken, one after another, and the bytes that each gathered.
 pub data Turns : List ℕ → List ℕ → State → List ℕ → List ℕ → List ℕ → Type 0 where
   no-turn : {line psl ltl : List ℕ} → Turns [] [] start line psl ltl
   one-turn : {read done block line psl ltl line′ psl′ ltl′ out′ : List ℕ} {s r : State} → Turns read done s line psl ltl
       → Advanced block line psl ltl s r line′ psl′ ltl′ out′ → r .more ≡ true → Turns (read ++ block) (done ++ take (r .gathered) out′) r line′ psl′ ltl′
-
--- Nothing was read, and nothing is gathered; and the same where the run stops.
-abbrev pub idle : State → State
-idle s = record { number = s .number; filled = s .filled; nodes = s .nodes; size = s .size; gathered = 0; more = s .more; failed = s .failed }
-
-abbrev pub stopped : State → State
-stopped s = record { number = s .number; filled = s .filled; nodes = s .nodes; size = s .size; gathered = 0; more = false; failed = true }
-
--- A turn took the block that was read, and handed its output over to be written; or reading or writing failed, and the run stops.
-pub record Turned (line psl ltl : List ℕ) (s r : State) (line′ psl′ ltl′ out′ : List ℕ) : Type 0 where
-  pub within : Within r line′ psl′ ltl′ out′
-  pub block : List ℕ
-  pub stops : r .failed ≡ true → r .more ≡ false
-  pub takes : r .failed ≡ false → Advanced block line psl ltl s r line′ psl′ ltl′ out′

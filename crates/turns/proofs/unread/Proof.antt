@@ -2,8 +2,8 @@
 use mathlib.Core.Path.{refl}
 use mathlib.Core.Logic.{inl, inr}
 use borrow.Author.Needs.{needs}
-use Rattle.run.proofs.stream.unread.Statement.{statement}
-use Rattle.run.proofs.stream.unread.Tie as tie
+use Rattle.turns.proofs.unread.Statement.{statement}
+use Rattle.turns.proofs.unread.Tie as tie
 
 errno-requires : tie.Need-errno-requires
 errno-requires c κs = search needs

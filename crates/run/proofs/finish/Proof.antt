@@ -3,8 +3,8 @@ use mathlib.Core.Logic.{⊎-elim}
 use native.Mathlib.Omega.{arith}
 use Rattle.run.proofs.StreamLaw.{nothing-open, line-open}
 use borrow.Author.Needs.{needs}
-use Rattle.run.proofs.stream.finish.Statement.{statement}
-use Rattle.run.proofs.stream.finish.Tie as tie
+use Rattle.run.proofs.finish.Statement.{statement}
+use Rattle.run.proofs.finish.Tie as tie
 
 returns : tie.Need-returns
 returns c = let x = c .before .before .before .before .before .before .before .before .args in

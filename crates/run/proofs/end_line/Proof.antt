@@ -5,8 +5,8 @@ use lib.Seq.{length-take-le}
 use Rattle.answers.proofs.AnswerLaw.{tables-accepted}
 use Rattle.run.proofs.StreamLaw.{line-first, line-later}
 use borrow.Author.Needs.{needs}
-use Rattle.run.proofs.stream.end_line.Statement.{statement}
-use Rattle.run.proofs.stream.end_line.Tie as tie
+use Rattle.run.proofs.end_line.Statement.{statement}
+use Rattle.run.proofs.end_line.Tie as tie
 
 slice-aggregate-answer-first : tie.Need-slice-aggregate-answer-first
 slice-aggregate-answer-first c = let at-pre = c .before .before .before .before .before .before .before .pre in

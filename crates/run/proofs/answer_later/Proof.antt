@@ -1,8 +1,8 @@
 -- The text of either answer.
 use Rattle.run.proofs.StreamLaw.{later-refused, later-judged}
 use borrow.Author.Needs.{needs}
-use Rattle.run.proofs.stream.answer_later.Statement.{statement}
-use Rattle.run.proofs.stream.answer_later.Tie as tie
+use Rattle.run.proofs.answer_later.Statement.{statement}
+use Rattle.run.proofs.answer_later.Tie as tie
 
 later-line-requires : tie.Need-later-line-requires
 later-line-requires c κs = search needs

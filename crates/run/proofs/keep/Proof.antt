@@ -2,8 +2,8 @@
 use mathlib.Core.Path.{refl}
 use native.Mathlib.Omega.{arith}
 use borrow.Author.Needs.{needs}
-use Rattle.run.proofs.stream.keep.Statement.{statement}
-use Rattle.run.proofs.stream.keep.Tie as tie
+use Rattle.run.proofs.keep.Statement.{statement}
+use Rattle.run.proofs.keep.Tie as tie
 
 slice-write-line : tie.Need-slice-write-line
 slice-write-line c = search needs

@@ -6,8 +6,8 @@ use lib.ListN.{length}
 use lib.Seq.{length-take-le}
 use Rattle.run.proofs.StreamLaw.{first-refused, first-few, first-tables}
 use borrow.Author.Needs.{needs}
-use Rattle.run.proofs.stream.answer_first.Statement.{statement}
-use Rattle.run.proofs.stream.answer_first.Tie as tie
+use Rattle.run.proofs.answer_first.Statement.{statement}
+use Rattle.run.proofs.answer_first.Tie as tie
 
 first-line-requires : tie.Need-first-line-requires
 first-line-requires c κs = search needs

@@ -6,8 +6,8 @@ use borrow.Author.Tests.{not-true, not-false}
 use Prim.Native.Nat.{_-_}
 use lib.ListN.{length, getD}
 use Rattle.run.proofs.StreamLaw.{Feeding, feeding-start, feeding-byte, feeding-line, feeding-over, feeding-end}
-use Rattle.run.proofs.stream.feed.Statement.{statement}
-use Rattle.run.proofs.stream.feed.Tie as tie
+use Rattle.run.proofs.feed.Statement.{statement}
+use Rattle.run.proofs.feed.Tie as tie
 
 abbrev Inv-loop : tie.InvT-loop
 Inv-loop block line₀ psl₀ ltl₀ out₀ r₀ i₀ line psl ltl out r i = Feeding block line₀ psl₀ ltl₀ r₀ line psl ltl out r i

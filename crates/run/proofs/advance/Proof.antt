@@ -3,8 +3,8 @@ use mathlib.Core.Path.{refl}
 use native.Mathlib.Omega.{arith}
 use Rattle.run.proofs.StreamLaw.{within-idle, advance-end, advance-on}
 use borrow.Author.Needs.{needs}
-use Rattle.run.proofs.stream.advance.Statement.{statement}
-use Rattle.run.proofs.stream.advance.Tie as tie
+use Rattle.run.proofs.advance.Statement.{statement}
+use Rattle.run.proofs.advance.Tie as tie
 
 finish-requires : tie.Need-finish-requires
 finish-requires c κs = let x = c .before .before .before .before .before .before .before .before .before .before .args in

@@ -3,10 +3,10 @@ use mathlib.Core.Path.{sym}
 use native.Mathlib.Omega.{arith}
 use lib.ListN.{length-take}
 use lib.Seq.{length-take-le}
-use Rattle.run.proofs.StreamLaw.{turn-taken, turn-stopped, turn-idle}
+use Rattle.turns.proofs.TurnLaw.{turn-taken, turn-stopped, turn-idle}
 use borrow.Author.Needs.{needs}
-use Rattle.run.proofs.stream.turn.Statement.{statement}
-use Rattle.run.proofs.stream.turn.Tie as tie
+use Rattle.turns.proofs.turn.Statement.{statement}
+use Rattle.turns.proofs.turn.Tie as tie
 
 slice-aggregate-write-all : tie.Need-slice-aggregate-write-all
 slice-aggregate-write-all c = search needs

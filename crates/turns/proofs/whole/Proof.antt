@@ -6,10 +6,10 @@ use native.Mathlib.Omega.{arith}
 use Prim.Native.Nat.{ℕ, _<_}
 use lib.ListN.{length-replicate}
 use borrow.Author.Needs.{needs}
 use Rattle.run.specs.Inner.{keptBytes, Within, no-turn}
-use Rattle.run.proofs.StreamLaw.{Underway, underway-turn}
-use Rattle.run.proofs.stream.whole.Statement.{statement}
-use Rattle.run.proofs.stream.whole.Tie as tie
+use Rattle.turns.proofs.TurnLaw.{Underway, underway-turn}
+use Rattle.turns.proofs.whole.Statement.{statement}
+use Rattle.turns.proofs.whole.Tie as tie
 
 abbrev Inv-loop : tie.InvT-loop
 Inv-loop line₀ psl₀ ltl₀ out₀ s₀ turns₀ line psl ltl out s turns = Within s line psl ltl out × (0 < turns → (s .more ≡ true) × Underway s line psl ltl)
