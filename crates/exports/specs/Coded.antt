@@ -8,12 +8,12 @@ use Rattle.translate.specs.declared.Translation.{Translation}
 use Rattle.translate.specs.declared.Translation.the-variants as Translation
 use Rattle.verdict.specs.declared.Verdict.{Verdict}
 use Rattle.verdict.specs.declared.Verdict.the-variants as Verdict
-use Rattle.lines.specs.declared.formula.Line.{Line}
-use Rattle.lines.specs.declared.formula.Line.the-variants as Line
-use Rattle.lines.specs.declared.traces.TraceLine.{TraceLine}
-use Rattle.lines.specs.declared.traces.TraceLine.the-variants as TraceLine
-use Rattle.lines.specs.declared.nodes.NodeLine.{NodeLine}
-use Rattle.lines.specs.declared.nodes.NodeLine.the-variants as NodeLine
+use Rattle.formula_lines.specs.declared.Line.{Line}
+use Rattle.formula_lines.specs.declared.Line.the-variants as Line
+use Rattle.trace_lines.specs.declared.TraceLine.{TraceLine}
+use Rattle.trace_lines.specs.declared.TraceLine.the-variants as TraceLine
+use Rattle.node_lines.specs.declared.NodeLine.{NodeLine}
+use Rattle.node_lines.specs.declared.NodeLine.the-variants as NodeLine
 
 abbrev pub foundCode : Found → ℕ
 foundCode (Found.Letter x) = 256 + x

@@ -13,21 +13,20 @@ ghost use Rattle.translate.specs.Answer.{Delivers};
 ghost use Rattle.verdict.specs.declared.Verdict.{Verdict};
 ghost use Rattle.verdict.specs.Verdict.{PslJudges, LtlJudges};
 ghost use Rattle.table.specs.Node.{node};
-ghost use Rattle.lines.specs.declared.formula.Line.{Line};
-ghost use Rattle.lines.specs.declared.traces.TraceLine.{TraceLine};
-ghost use Rattle.lines.specs.Spelling.{nodeLine};
-ghost use Rattle.lines.specs.FormulaAnswer.{FormulaAnswer};
-ghost use Rattle.lines.specs.TraceAnswer.{TraceAnswer};
-ghost use Rattle.lines.specs.NodeAnswer.{nodeAnswer, nodeList};
+ghost use Rattle.formula_lines.specs.declared.Line.{Line};
+ghost use Rattle.trace_lines.specs.declared.TraceLine.{TraceLine};
+ghost use Rattle.node_lines.specs.Spelling.{nodeLine};
+ghost use Rattle.formula_lines.specs.FormulaAnswer.{FormulaAnswer};
+ghost use Rattle.trace_lines.specs.TraceAnswer.{TraceAnswer};
+ghost use Rattle.node_lines.specs.NodeAnswer.{nodeAnswer, nodeList};
 ghost use Rattle.exports.specs.Coded.{foundCode, checkedCode, translationCode, verdictCode, formulaCode, traceCode, nodeCode};
-use lines::formula::Line;
-use lines::nodes::NodeLine;
-use lines::traces::TraceLine;
-use logic::Letter;
+use formula_lines::Line;
+use node_lines::NodeLine;
 use table::Checked;
 use table::NodeNo;
 use trace::Found;
 use trace::Moment;
+use trace_lines::TraceLine;
 use translate::Translation;
 use verdict::Verdict;
 
@@ -162,7 +161,7 @@ fn formula_code(a: Line) -> u64
 pub extern "C" fn brancadol_read_formula(line: &[u8], out: &mut [u16]) -> u64
     ensures { λ r. ⌜ ((a : Line) × FormulaAnswer (now (line .entry)) (now (out .entry)) a (now (out .exit)) × (r ≡ formulaCode a)) ⌝ }
 {
-    formula_code(lines::formula::read_formula(line, out))
+    formula_code(formula_lines::read_formula(line, out))
 }
 
 fn trace_code(a: TraceLine) -> u64
@@ -184,7 +183,7 @@ pub extern "C" fn brancadol_read_trace(
 ) -> u64
     ensures { λ r. ⌜ ((a : TraceLine) × TraceAnswer (now (line .entry)) (now (lead .entry)) (now (cycle .entry)) a (now (lead .exit)) (now (cycle .exit)) × (r ≡ traceCode a)) ⌝ }
 {
-    trace_code(lines::traces::read_trace(line, lead, cycle))
+    trace_code(trace_lines::read_trace(line, lead, cycle))
 }
 
 fn node_code(a: NodeLine) -> u64
@@ -206,5 +205,5 @@ pub extern "C" fn brancadol_write_node(
 ) -> u64
     ensures { λ r. ⌜ (r ≡ nodeCode (nodeAnswer own (node kind left right) (length (now (out .entry))))) × (now (out .exit) ≡ nodeList (nodeAnswer own (node kind left right) (length (now (out .entry)))) (nodeLine own (node kind left right)) (now (out .entry))) ⌝ }
 {
-    node_code(lines::nodes::write_node(NodeNo(own), kind, left, right, out))
+    node_code(node_lines::write_node(NodeNo(own), kind, left, right, out))
 }

@@ -2,16 +2,16 @@
 // each of the loop, a node line its bytes; a refusal is 10,000 and its number.
 ghost use Prim.Native.Nat.{_≤_};
 ghost use lib.ListN.{length};
+use formula_lines::Line;
+use formula_lines::read_formula;
 use libc::STDOUT_FILENO;
-use lines::formula::Line;
-use lines::formula::read_formula;
-use lines::nodes::NodeLine;
-use lines::nodes::write_node;
-use lines::traces::TraceLine;
-use lines::traces::read_trace;
+use node_lines::NodeLine;
+use node_lines::write_node;
 use report::say;
 use report::show;
 use table::NodeNo;
+use trace_lines::TraceLine;
+use trace_lines::read_trace;
 
 fn formula(line: &[u8], out: &mut [u16]) -> u64 {
     match read_formula(line, out) {

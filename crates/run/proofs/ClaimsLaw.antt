@@ -1,8 +1,8 @@
 -- The statements of `Claims`.
-use mathlib.Core.Path.{_≡_, refl, ap, sym, subst, _∙_}
+use mathlib.Core.Path.{_≡_, ap, sym, subst, _∙_}
 use mathlib.Core.Logic.{inl, inr, _↔_}
 use mathlib.Core.List.{List, [], _∷_, _++_}
-use Prim.Native.Nat.{ℕ, suc, _<_}
+use Prim.Native.Nat.{ℕ, suc}
 use native.Mathlib.Omega.{arith}
 use native.Mathlib.Decide.{decLt}
 use Rattle.logic.specs.Trace.{size}
@@ -11,55 +11,29 @@ use Rattle.logic.specs.Meaning.{HoldsOn}
 use Rattle.logic.specs.LtlMeaning.{LtlHoldsOn}
 use Rattle.ltl.specs.Table.{treeOf}
 use Rattle.translate.specs.Emitted.{emitted}
-use Rattle.translate.proofs.TranslatesLaw.{translates}
 use Rattle.verdict.specs.declared.Verdict.{Verdict}
 use Rattle.verdict.specs.declared.Verdict.the-variants as Verdict
-use Rattle.lines.specs.Text.{text}
-use Rattle.lines.specs.Spelling.{formulaLine, Trace, lineOfTrace}
-use Rattle.lines.specs.FormulaAnswer.{formulaLimits}
-use Rattle.lines.specs.TraceAnswer.{traceLimits}
-use Rattle.lines.proofs.ReadingLaw.{taken-alone, not-both, refused-alone}
-use Rattle.lines.proofs.FormulaLaw.{formula-injective}
-use Rattle.lines.proofs.TraceLaw.{trace-alone}
+use Rattle.text.specs.Text.{text}
+use Rattle.formula_lines.specs.Spelling.{formulaLine}
+use Rattle.trace_lines.specs.Spelling.{Trace}
+use Rattle.formula_lines.specs.FormulaAnswer.{formulaLimits}
+use Rattle.text.proofs.ReadingLaw.{taken-alone, not-both, refused-alone}
+use Rattle.formula_lines.proofs.FormulaLaw.{formula-injective}
 use Rattle.run.specs.Claims.{Claims}
 use Rattle.run.specs.Input.{inputLines}
-use Rattle.run.specs.Printed.{refusedText, verdictText, tableText}
-use Rattle.run.specs.Whole.{Tells, Judged, LaterAnswer, laterText, PrintsTraces, Prints}
-use Rattle.run.specs.declared.Later.{Later}
-use Rattle.run.specs.declared.Later.the-variants as Later
+use Rattle.printing.specs.Printed.{refusedText, verdictText, tableText}
+use Rattle.answers.specs.Answer.{Tells, Judged}
+use Rattle.answers.proofs.ClaimsLaw.{later-alone}
+use Rattle.run.specs.Whole.{laterText, PrintsTraces, Prints}
+use Rattle.answers.specs.declared.Later.{Later}
+use Rattle.answers.specs.declared.Later.the-variants as Later
 use Rattle.run.proofs.StreamLaw.{turned}
 
 -- ── Verdicts ──
 
--- Verdicts on claims that hold together are equal.
-tells-both : {A B : Type 0} → (A ↔ B) → (v w : Verdict) → Tells A v → Tells B w → v ≡ w
-tells-both e Verdict.Yes Verdict.Yes a b = refl
-tells-both e Verdict.Yes Verdict.No a b = absurd (b (e .0 a))
-tells-both e Verdict.No Verdict.Yes a b = absurd (a (e .1 b))
-tells-both e Verdict.No Verdict.No a b = refl
-tells-both e (Verdict.Refused x) w a b = absurd a
-tells-both e Verdict.Yes (Verdict.Refused x) a b = absurd b
-tells-both e Verdict.No (Verdict.Refused x) a b = absurd b
-
 module _ (f : Formula) (t : Trace) where
-  abbrev Psl : Type 0
-  Psl = HoldsOn f (t .lead) (t .loop)
-
   abbrev Ltl : Type 0
   Ltl = LtlHoldsOn (treeOf (emitted f)) (t .lead) (t .loop)
-
-  agree : (v w : Verdict) → Judged f t v w → 0 < size (t .lead) (t .loop) → v ≡ w
-  agree v w j h = tells-both (translates f (t .lead) (t .loop) h) v w (j .psl) (j .ltl h)
-
-  judged-alone : (v w v′ w′ : Verdict) → Judged f t v w → Judged f t v′ w′ → (v ≡ v′) × (w ≡ w′)
-  judged-alone v w v′ w′ j k = (tells-both (λ a. a, λ a. a) v v′ (j .psl) (k .psl), second)
-    where
-      second : w ≡ w′
-      second =
-          elim (decLt 0 (size (t .lead) (t .loop))) [
-            | yes h ↦ tells-both (λ a. a, λ a. a) w w′ (j .ltl h) (k .ltl h)
-            | no h ↦ j .empty (omega arith) ∙ sym (k .empty (omega arith))
-          ]
 
   -- What is printed as none is refused.
   decided : (A : Type 0) (v : Verdict) → Tells A v → verdictText v ≡ text "none" → ⊥
@@ -74,15 +48,6 @@ module _ (f : Formula) (t : Trace) where
       (λ e. elim (decLt 0 (size (t .lead) (t .loop))) [ yes h ↦ absurd (decided Ltl w (j .ltl h) e) | no h ↦ omega arith ], λ h. ap verdictText (j .empty h))
 
 -- ── Lines ──
-
-later-alone : (f : Formula) (line : List ℕ) (r q : Later) → LaterAnswer f line r → LaterAnswer f line q → r ≡ q
-later-alone f line (Later.Verdicts v w) (Later.Verdicts v′ w′) (t, a, j) (u, b, k) =
-    let d = taken-alone lineOfTrace trace-alone traceLimits b a in
-    let (p, q) = judged-alone f t v w v′ w′ j (subst (λ (x : Trace). Judged f x v′ w′) d k) in
-    cc
-later-alone f line (Later.Verdicts v w) (Later.Refused x) (t, a, j) b = absurd (not-both lineOfTrace trace-alone traceLimits a b)
-later-alone f line (Later.Refused x) (Later.Verdicts v w) b (t, a, j) = absurd (not-both lineOfTrace trace-alone traceLimits a b)
-later-alone f line (Later.Refused x) (Later.Refused y) a b = ap Later.Refused (refused-alone lineOfTrace trace-alone traceLimits a b)
 
 traces-alone : (f : Formula) (i : ℕ) (ls : List (List ℕ)) (out out′ : List ℕ) → PrintsTraces f i ls out → PrintsTraces f i ls out′ → out ≡ out′
 traces-alone f i [] out out′ p q = p ∙ sym q
@@ -107,7 +72,6 @@ claims =
     record {
       turns = λ t a m. a .ends m _ _ (turned t);
       one-output = λ input out out′ p q. prints-alone (inputLines input) out out′ p q;
-      agree = agree;
       none-ltl = none-ltl;
       none-psl = λ f t v w j. decided f t (HoldsOn f (t .lead) (t .loop)) v (j .psl);
     }

@@ -1,7 +1,5 @@
 -- Laws that the proofs share.
-pub mod PrintedLaw
 pub mod CutLaw
-pub mod AnswerLaw
 pub mod ProgressLaw
 pub mod StreamLaw
 pub mod ClaimsLaw

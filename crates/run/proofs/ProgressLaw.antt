@@ -13,18 +13,20 @@ use lib.Seq.{sets-eq, take-at, take-all, take-suc-set, take-append-le, length-ta
 use Rattle.table.specs.Node.{_▸_}
 use Rattle.logic.specs.Formula.{Formula}
 use Rattle.translate.specs.Emitted.{emitted}
-use Rattle.lines.specs.Inner.Writer.{Wrote}
-use Rattle.lines.proofs.ReadingLaw.{takes-cut, refuses-cut}
-use Rattle.lines.proofs.WriterLaw.{wrote-room, wrote-fits}
+use Rattle.text.specs.Inner.Writer.{Wrote}
+use Rattle.text.proofs.ReadingLaw.{takes-cut, refuses-cut}
+use Rattle.text.proofs.WriterLaw.{wrote-room, wrote-fits}
 use Rattle.run.specs.Input.{endedAfter, openAfter, endedLines, openLine, inputLines}
-use Rattle.run.specs.Printed.{tableText}
-use Rattle.run.specs.Whole.{LaterAnswer, laterText, PrintsTraces, Prints, Runs}
-use Rattle.run.specs.Inner.{FirstAnswer, keptBytes, Told, Going, At, firstText, Remembers, FirstDone, LaterDone, Keeps}
-use Rattle.run.specs.declared.First.{First}
-use Rattle.run.specs.declared.First.the-variants as First
-use Rattle.run.specs.declared.Later.{Later}
-use Rattle.run.specs.declared.Later.the-variants as Later
-use Rattle.run.specs.declared.stream.State.{State}
+use Rattle.printing.specs.Printed.{tableText}
+use Rattle.answers.specs.Answer.{LaterAnswer}
+use Rattle.run.specs.Whole.{laterText, PrintsTraces, Prints, Runs}
+use Rattle.answers.specs.Inner.{FirstAnswer}
+use Rattle.run.specs.Inner.{keptBytes, Told, Going, At, firstText, Remembers, FirstDone, LaterDone, Keeps}
+use Rattle.answers.specs.declared.First.{First}
+use Rattle.answers.specs.declared.First.the-variants as First
+use Rattle.answers.specs.declared.Later.{Later}
+use Rattle.answers.specs.declared.Later.the-variants as Later
+use Rattle.run.specs.declared.State.{State}
 use Rattle.run.proofs.CutLaw.{ended-end, open-end, ended-byte, open-byte, first-line-stays, last-ends, only-line, no-last}
 
 -- ── The gathered bytes ──

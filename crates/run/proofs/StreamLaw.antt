@@ -1,6 +1,5 @@
 -- What each way out of the functions of the stream gives.
 use mathlib.Core.Path.{_≡_, refl, ap, sym, subst, _∙_}
-use mathlib.Core.Logic.{_⊎_, inl, inr}
 use mathlib.Core.Bool.{Bool, true, false}
 use mathlib.Core.List.{List, [], _∷_, _++_, append-assoc, append-nil}
 use Prim.Native.Nat.{ℕ, suc, _+_, _*_, _-_, _<_, _≤_}
@@ -14,15 +13,17 @@ use Rattle.trace.specs.declared.Refusal.{Refusal}
 use Rattle.table.specs.Node.{_▸_}
 use Rattle.logic.specs.Formula.{Formula}
 use Rattle.verdict.specs.declared.Verdict.{Verdict}
-use Rattle.lines.specs.Inner.Writer.{Wrote}
-use Rattle.run.specs.Printed.{refusedText, traceText, tableText}
-use Rattle.run.specs.Whole.{LaterAnswer, Runs}
-use Rattle.run.specs.Inner.{TablesOf, FirstAnswer, Going, At, longest, shortest, mostBlock, Within, Gathered, Remembers, FirstDone, LaterDone, LineDone, Keeps, Fed, Finished, Ends, Advanced, start, Turns, no-turn, one-turn, idle, stopped, Turned}
-use Rattle.run.specs.declared.First.{First}
-use Rattle.run.specs.declared.First.the-variants as First
-use Rattle.run.specs.declared.Later.{Later}
-use Rattle.run.specs.declared.Later.the-variants as Later
-use Rattle.run.specs.declared.stream.State.{State}
+use Rattle.text.specs.Inner.Writer.{Wrote}
+use Rattle.printing.specs.Printed.{refusedText, traceText, tableText}
+use Rattle.answers.specs.Answer.{LaterAnswer}
+use Rattle.run.specs.Whole.{Runs}
+use Rattle.answers.specs.Inner.{TablesOf, FirstAnswer}
+use Rattle.run.specs.Inner.{Going, At, longest, shortest, mostBlock, Within, Gathered, Remembers, FirstDone, LaterDone, LineDone, Keeps, Fed, Finished, Ends, Advanced, start, Turns, no-turn, one-turn, idle}
+use Rattle.answers.specs.declared.First.{First}
+use Rattle.answers.specs.declared.First.the-variants as First
+use Rattle.answers.specs.declared.Later.{Later}
+use Rattle.answers.specs.declared.Later.the-variants as Later
+use Rattle.run.specs.declared.State.{State}
 use Rattle.run.proofs.ProgressLaw.{going-start, going-same, going-byte, at-first, going-later, end-empty, end-open}
 
 -- ── Bounds ──
@@ -43,6 +44,9 @@ within-as s r w number filled nodes size more =
       working = λ m. more m .1;
       stored = λ h m. rw (nodes, size) (w .stored (omega (arith, number)) (more m .0));
     }
+
+pub within-idle : {line psl ltl out : List ℕ} (s : State) → Within s line psl ltl out → Within (idle s) line psl ltl out
+within-idle s w = within-as s (idle s) w refl refl refl refl (λ m. (m, w .working m))
 
 -- ── Answers ──
 
@@ -301,7 +305,7 @@ module _ {line psl ltl out : List ℕ} (s : State) (w : Within s line psl ltl ou
 abbrev pub ended : State → State
 ended s = record { number = s .number; filled = s .filled; nodes = s .nodes; size = s .size; gathered = s .gathered; more = false; failed = s .failed }
 
-never : {b : Bool} → b ≡ true → b ≡ false → ⊥
+pub never : {b : Bool} → b ≡ true → b ≡ false → ⊥
 never {b} p q = let z : _≡_ {A = ℕ} 0 1 = cc in omega arith
 
 nil : (xs : List ℕ) → length xs ≡ 0 → xs ≡ []
@@ -310,7 +314,7 @@ nil (x ∷ xs) e = absurd (omega arith)
 
 -- Gathering begins anew: the relation does not speak of what is gathered.
 module _ {line psl ltl : List ℕ} (s : State) where
-  anew : {read done : List ℕ} → Going read done s line psl ltl → Going read done (idle s) line psl ltl
+  pub anew : {read done : List ℕ} → Going read done s line psl ltl → Going read done (idle s) line psl ltl
   anew a = going-same s (idle s) a refl refl refl refl
 
   pub advance-end : {block psl′ ltl′ out′ : List ℕ} (r : State) → length block ≡ 0 → Finished line psl ltl (idle s) r psl′ ltl′ out′
@@ -337,63 +341,8 @@ module _ {line psl ltl : List ℕ} (s : State) where
       go [] z read out f = absurd (z refl)
       go (x ∷ xs) z read out f = λ rest. subst (λ (y : List ℕ). Runs y out) (append-assoc read (x ∷ xs) rest) (f rest)
 
--- ── A turn ──
-
-module _ {line psl ltl out : List ℕ} (s : State) (w : Within s line psl ltl out) where
-  pub within-idle : Within (idle s) line psl ltl out
-  within-idle = within-as s (idle s) w refl refl refl refl (λ m. (m, w .working m))
-
-  within-stopped : Within (stopped s) line psl ltl out
-  within-stopped = within-as s (stopped s) w refl refl refl refl (λ m. absurd (never m refl))
-
--- It took the block.
-pub turn-taken : {line psl ltl line′ psl′ ltl′ out′ : List ℕ} (block : List ℕ) (s r : State) → Advanced block line psl ltl s r line′ psl′ ltl′ out′
-    → Turned line psl ltl s r line′ psl′ ltl′ out′
-turn-taken block s r a = record { within = a .within; block = block; stops = λ e. go e (r .more) refl; takes = λ _. a }
-  where
-    go : r .failed ≡ true → (m : Bool) → r .more ≡ m → r .more ≡ false
-    go e true h = absurd (never e (a .within .working h))
-    go e false h = h
-
--- It stops, from the state r on.
-pub turn-stopped : {line psl ltl line′ psl′ ltl′ out′ : List ℕ} (s r r′ : State) → Within r line′ psl′ ltl′ out′ → r′ ≡ stopped r → Turned line psl ltl s r′ line′ psl′ ltl′ out′
-turn-stopped {line} {psl} {ltl} {line′} {psl′} {ltl′} {out′} s r r′ w e =
-    subst (λ (q : State). Turned line psl ltl s q line′ psl′ ltl′ out′) (sym e)
-    (record { within = within-stopped r w; block = []; stops = λ _. refl; takes = λ h. absurd (never refl h) })
-
--- Nothing was read.
-pub turn-idle : {line psl ltl out : List ℕ} (s r : State) → Within s line psl ltl out → s .more ≡ true → (r ≡ idle s) ⊎ (r ≡ stopped s)
-    → Turned line psl ltl s r line psl ltl out
-turn-idle s r w m (inr e) = turn-stopped s s r w e
-turn-idle {line} {psl} {ltl} {out} s r w m (inl e) =
-    subst (λ (q : State). Turned line psl ltl s q line psl ltl out) (sym e)
-    (record {
-      within = within-idle s w;
-      block = [];
-      stops = λ h. absurd (never h (w .working m));
-      takes = λ _. record {
-        within = within-idle s w;
-        room = omega arith;
-        goes = λ _ read done a.
-            subst (λ (x : List ℕ). Going (read ++ []) x (idle s) line psl ltl) (sym (append-nil done))
-            (subst (λ (x : List ℕ). Going x done (idle s) line psl ltl) (sym (append-nil read)) (anew s a));
-        ends = λ h. absurd (never m h);
-      };
-    })
-
--- ── The whole run ──
-
 -- ── Turns ──
 
 pub turned : {read done line psl ltl : List ℕ} {s : State} → Turns read done s line psl ltl → Going read done s line psl ltl
 turned no-turn = going-start start refl refl
 turned (one-turn t a m) = a .goes m _ _ (turned t)
-
--- Some turns have been made.
-abbrev pub Underway : State → List ℕ → List ℕ → List ℕ → Type 0
-Underway s line psl ltl = (read : List ℕ) × (done : List ℕ) × Turns read done s line psl ltl
-
-pub underway-turn : {line psl ltl line′ psl′ ltl′ out′ : List ℕ} (s r : State) → Underway s line psl ltl → Turned line psl ltl s r line′ psl′ ltl′ out′ → r .more ≡ true
-    → Underway r line′ psl′ ltl′
-underway-turn {out′ = out′} s r (read, done, g) t m =
-    (read ++ t .block, done ++ take (r .gathered) out′, one-turn g (t .takes (t .within .working m)) m)

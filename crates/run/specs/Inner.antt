@@ -1,46 +1,28 @@
 -- What the inner functions of a run promise: read this after `Whole`.
 use mathlib.Core.Path.{_≡_}
 use mathlib.Core.Bool.{true, false}
-use mathlib.Core.Option.{none}
 use mathlib.Core.List.{List, [], _∷_, _++_}
 use Prim.Native.Nat.{ℕ, _+_, _*_, _-_, _≤_, _<_}
 use lib.ListN.{length, take, set}
-use Rattle.table.specs.Node.{numbersOf, _▸_}
+use Rattle.table.specs.Node.{_▸_}
 use Rattle.logic.specs.Formula.{Formula}
-use Rattle.psl.specs.Check.{pslRules, pslRefusal}
-use Rattle.ltl.specs.Check.{ltlRules, ltlRefusal}
+use Rattle.psl.specs.Check.{pslRules}
+use Rattle.ltl.specs.Check.{ltlRules}
 use Rattle.translate.specs.Emitted.{emitted}
-use Rattle.lines.specs.Spelling.{formulaLine}
-use Rattle.lines.specs.Closing.{table}
-use Rattle.lines.specs.Limits.{mostBytes}
-use Rattle.lines.specs.Reading.{Takes, Refuses}
-use Rattle.lines.specs.FormulaAnswer.{formulaLimits}
-use Rattle.lines.specs.Inner.Writer.{Wrote}
+use Rattle.formula_lines.specs.Spelling.{formulaLine}
+use Rattle.text.specs.Limits.{mostBytes}
+use Rattle.text.specs.Reading.{Takes}
+use Rattle.formula_lines.specs.FormulaAnswer.{formulaLimits}
+use Rattle.text.specs.Inner.Writer.{Wrote}
 use Rattle.run.specs.Input.{endedLines, openLine}
-use Rattle.run.specs.Printed.{refusedText, tableText}
-use Rattle.run.specs.Whole.{LaterAnswer, laterText, PrintsTraces, Runs}
-use Rattle.run.specs.declared.First.{First}
-use Rattle.run.specs.declared.First.the-variants as First
-use Rattle.run.specs.declared.Later.{Later}
-use Rattle.run.specs.declared.stream.State.{State}
-
--- ── The two tables ──
-
--- The PSL and the LTL table of a formula that is within the limits.
-pub record TablesOf (f : Formula) (psl ltl : List ℕ) : Type 0 where
-  pub limits : formulaLimits f ≡ none
-  pub read : psl ≡ numbersOf (table f)
-  pub translated : ltl ≡ emitted f
-
--- Both tables pass their check.
-abbrev pub Accepted : List ℕ → List ℕ → Type 0
-Accepted psl ltl = (pslRefusal psl ≡ none) × (ltlRefusal ltl ≡ none)
-
--- Line 1: the tables of its formula stand at the front of two lists, n and s nodes; or its refusal.
-abbrev pub FirstAnswer : List ℕ → First → List ℕ → List ℕ → Type 0
-FirstAnswer line (First.Tables n s) psl ltl =
-    (f : Formula) × Takes formulaLine formulaLimits line f × TablesOf f (take (3 * n) psl) (take (3 * s) ltl) × (n ≤ pslRules .most) × (s ≤ ltlRules .most)
-FirstAnswer line (First.Refused x) psl ltl = Refuses formulaLine formulaLimits line x
+use Rattle.printing.specs.Printed.{refusedText, tableText}
+use Rattle.answers.specs.Answer.{LaterAnswer}
+use Rattle.answers.specs.Inner.{TablesOf, FirstAnswer}
+use Rattle.run.specs.Whole.{laterText, PrintsTraces, Runs}
+use Rattle.answers.specs.declared.First.{First}
+use Rattle.answers.specs.declared.First.the-variants as First
+use Rattle.answers.specs.declared.Later.{Later}
+use Rattle.run.specs.declared.State.{State}
 
 -- ── Where a run stands between two bytes of its input ──
 
@@ -174,22 +156,12 @@ pub record Advanced (block line psl ltl : List ℕ) (s r : State) (line′ psl�
 abbrev pub start : State
 start = record { number = 1; filled = 0; nodes = 0; size = 0; gathered = 0; more = true; failed = false }
 
+-- Nothing is gathered.
+abbrev pub idle : State → State
+idle s = record { number = s .number; filled = s .filled; nodes = s .nodes; size = s .size; gathered = 0; more = s .more; failed = s .failed }
+
 -- Turns from the start on: the blocks that were taken, one after another, and the bytes that each gathered.
 pub data Turns : List ℕ → List ℕ → State → List ℕ → List ℕ → List ℕ → Type 0 where
   no-turn : {line psl ltl : List ℕ} → Turns [] [] start line psl ltl
   one-turn : {read done block line psl ltl line′ psl′ ltl′ out′ : List ℕ} {s r : State} → Turns read done s line psl ltl
       → Advanced block line psl ltl s r line′ psl′ ltl′ out′ → r .more ≡ true → Turns (read ++ block) (done ++ take (r .gathered) out′) r line′ psl′ ltl′
-
--- Nothing was read, and nothing is gathered; and the same where the run stops.
-abbrev pub idle : State → State
-idle s = record { number = s .number; filled = s .filled; nodes = s .nodes; size = s .size; gathered = 0; more = s .more; failed = s .failed }
-
-abbrev pub stopped : State → State
-stopped s = record { number = s .number; filled = s .filled; nodes = s .nodes; size = s .size; gathered = 0; more = false; failed = true }
-
--- A turn took the block that was read, and handed its output over to be written; or reading or writing failed, and the run stops.
-pub record Turned (line psl ltl : List ℕ) (s r : State) (line′ psl′ ltl′ out′ : List ℕ) : Type 0 where
-  pub within : Within r line′ psl′ ltl′ out′
-  pub block : List ℕ
-  pub stops : r .failed ≡ true → r .more ≡ false
-  pub takes : r .failed ≡ false → Advanced block line psl ltl s r line′ psl′ ltl′ out′

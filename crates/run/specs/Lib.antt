@@ -1,6 +1,5 @@
--- What a run means: `Input` its lines, `Printed` the texts, `Whole` a run from its input to its output, `Claims` what holds of every run.
+-- What a run means: `Input` its lines, `Whole` a run from its input to its output, `Claims` what holds of every run.
 pub mod Input
-pub mod Printed
 pub mod Whole
 pub mod Inner
 pub mod Claims

@@ -2,45 +2,20 @@
 use mathlib.Core.Path.{_≡_}
 use mathlib.Core.Logic.{_⊎_}
 use mathlib.Core.List.{List, [], _∷_, _++_}
-use Prim.Native.Nat.{ℕ, suc, _<_}
-use Rattle.logic.specs.Trace.{size}
+use Prim.Native.Nat.{ℕ, suc}
 use Rattle.trace.specs.declared.Refusal.{Refusal}
-use Rattle.table.specs.Answer.{refused}
 use Rattle.logic.specs.Formula.{Formula}
-use Rattle.logic.specs.Meaning.{HoldsOn}
-use Rattle.logic.specs.LtlMeaning.{LtlHoldsOn}
-use Rattle.ltl.specs.Table.{treeOf}
 use Rattle.translate.specs.Emitted.{emitted}
-use Rattle.verdict.specs.declared.Verdict.{Verdict}
-use Rattle.verdict.specs.declared.Verdict.the-variants as Verdict
-use Rattle.lines.specs.Spelling.{formulaLine, Trace, lineOfTrace}
-use Rattle.lines.specs.Reading.{Takes, Refuses}
-use Rattle.lines.specs.FormulaAnswer.{formulaLimits}
-use Rattle.lines.specs.TraceAnswer.{traceLimits}
+use Rattle.formula_lines.specs.Spelling.{formulaLine}
+use Rattle.text.specs.Reading.{Takes, Refuses}
+use Rattle.formula_lines.specs.FormulaAnswer.{formulaLimits}
 use Rattle.run.specs.Input.{inputLines}
-use Rattle.run.specs.Printed.{refusedText, traceText, tableText}
-use Rattle.run.specs.declared.Later.{Later}
-use Rattle.run.specs.declared.Later.the-variants as Later
+use Rattle.printing.specs.Printed.{refusedText, traceText, tableText}
+use Rattle.answers.specs.Answer.{LaterAnswer}
+use Rattle.answers.specs.declared.Later.{Later}
+use Rattle.answers.specs.declared.Later.the-variants as Later
 
 -- ── Trace lines ──
-
--- The verdict on a claim: yes where it is so, no where it is not.
-abbrev pub Tells : Type 0 → Verdict → Type 0
-Tells A Verdict.Yes = A
-Tells A Verdict.No = A → ⊥
-Tells A (Verdict.Refused x) = ⊥
-
--- The verdicts v and w on a trace: v tells whether f holds by the PSL meaning, w whether its emitted table holds by the LTL meaning. On the empty
--- trace, which has no LTL meaning, w is refused, and printed as `none`.
-pub record Judged (f : Formula) (t : Trace) (v w : Verdict) : Type 0 where
-  pub psl : Tells (HoldsOn f (t .lead) (t .loop)) v
-  pub ltl : 0 < size (t .lead) (t .loop) → Tells (LtlHoldsOn (treeOf (emitted f)) (t .lead) (t .loop)) w
-  pub empty : size (t .lead) (t .loop) ≡ 0 → w ≡ Verdict.Refused (refused 16)
-
--- A trace line is answered by both verdicts on the trace that it spells, or by its refusal.
-abbrev pub LaterAnswer : Formula → List ℕ → Later → Type 0
-LaterAnswer f line (Later.Verdicts v w) = (t : Trace) × Takes lineOfTrace traceLimits line t × Judged f t v w
-LaterAnswer f line (Later.Refused x) = Refuses lineOfTrace traceLimits line x
 
 -- What the answer to trace line i prints; it is line i + 1 of the input.
 abbrev pub laterText : ℕ → Later → List ℕ

@@ -1,4 +1,4 @@
 // A run whose first line is refused: it stops there.
 fn main() {
-    run::stream::whole();
+    turns::whole();
 }

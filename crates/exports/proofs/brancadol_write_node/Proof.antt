@@ -1,9 +1,9 @@
 -- `exports::brancadol_write_node` meets its contract: the writer's answer as a number, and the same bytes.
 use mathlib.Core.Path.{ap, _∙_}
-use Rattle.lines.specs.declared.nodes.NodeLine.{NodeLine}
+use Rattle.node_lines.specs.declared.NodeLine.{NodeLine}
 use Rattle.table.specs.Node.{node}
-use Rattle.lines.specs.Spelling.{nodeLine}
-use Rattle.lines.specs.NodeAnswer.{nodeList}
+use Rattle.node_lines.specs.Spelling.{nodeLine}
+use Rattle.node_lines.specs.NodeAnswer.{nodeList}
 use Rattle.exports.specs.Coded.{nodeCode}
 use borrow.Author.Needs.{needs}
 use Rattle.exports.proofs.brancadol_write_node.Statement.{statement}

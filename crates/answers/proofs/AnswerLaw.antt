@@ -1,0 +1,167 @@
+-- What the readers, the translator and the verdicts answer, in the terms of a run.
+use mathlib.Core.Path.{_≡_, refl, ap, sym, subst, _∙_}
+use mathlib.Core.Option.{Option, none, some}
+use mathlib.Core.List.{List}
+use Prim.Native.Nat.{ℕ, _*_, _≤_}
+use native.Mathlib.Omega.{arith}
+use borrow.Author.Tests.{le-leb}
+use lib.ListN.{length, take, replicate, length-replicate}
+use Rattle.trace.specs.Limits.{mostLetters}
+use Rattle.logic.specs.Trace.{size}
+use Rattle.trace.specs.declared.Refusal.{Refusal}
+use Rattle.table.specs.Answer.{refused}
+use Rattle.table.specs.Node.{numbersOf}
+use Rattle.table.proofs.NodeLaw.{length-numbers}
+use Rattle.table.proofs.CheckLaw.{some-none}
+use Rattle.logic.specs.Formula.{Formula}
+use Rattle.logic.specs.Meaning.{HoldsOn}
+use Rattle.psl.specs.Table.{formulaOf}
+use Rattle.psl.specs.Check.{pslRefusal}
+use Rattle.logic.specs.LtlMeaning.{LtlHoldsOn}
+use Rattle.ltl.specs.Table.{treeOf}
+use Rattle.ltl.specs.Check.{ltlRefusal}
+use Rattle.translate.specs.Emitted.{emitted, emittedSize}
+use Rattle.translate.specs.Answer.{translateRefusal, answer, Delivers}
+use Rattle.translate.specs.declared.Translation.{Translation}
+use Rattle.translate.specs.declared.Translation.the-variants as Translation
+use Rattle.translate.proofs.DeliversLaw.{size-most}
+use Rattle.translate.proofs.EmittedLaw.{emitted-accepted}
+use Rattle.verdict.specs.Verdict.{Judges, PslJudges, LtlJudges}
+use Rattle.verdict.specs.declared.Verdict.{Verdict}
+use Rattle.verdict.specs.declared.Verdict.the-variants as Verdict
+use Rattle.verdict.proofs.JudgesLaw.{psl-fine, ltl-fine, ltl-empty}
+use Rattle.formula_lines.specs.Spelling.{formulaLine}
+use Rattle.trace_lines.specs.Spelling.{Trace, lineOfTrace}
+use Rattle.formula_lines.specs.Closing.{table}
+use Rattle.text.specs.Reading.{Takes, Refuses}
+use Rattle.formula_lines.specs.FormulaAnswer.{formulaLimits, FormulaAnswer}
+use Rattle.trace_lines.specs.TraceAnswer.{traceLimits, TraceAnswer}
+use Rattle.formula_lines.specs.declared.Line.the-variants as Line
+use Rattle.trace_lines.specs.declared.TraceLine.the-variants as TraceLine
+use Rattle.text.proofs.ReadingLaw.{takes-by, refuses-by, front-take, front-length}
+use Rattle.formula_lines.proofs.LimitsLaw.{limits-few, limits-accepted, formula-room}
+use Rattle.trace_lines.proofs.LimitsLaw.{limits-short, trace-room}
+use Rattle.formula_lines.proofs.TableLaw.{table-formula}
+use Rattle.answers.specs.Answer.{Tells, LaterAnswer}
+use Rattle.answers.specs.Inner.{TablesOf, Accepted, FirstAnswer}
+use Rattle.answers.specs.declared.First.the-variants as First
+use Rattle.answers.specs.declared.Later.the-variants as Later
+
+-- ── The tables of a formula within the limits ──
+
+pub tables-accepted : {f : Formula} {psl ltl : List ℕ} → TablesOf f psl ltl → Accepted psl ltl
+tables-accepted {f} {psl} {ltl} a =
+    let t = numbersOf (table f) in
+    let e = limits-accepted f (a .limits) in
+    let g : emitted (formulaOf t) ≡ emitted f = ap emitted (table-formula f) in
+    (ap pslRefusal (a .read) ∙ e, ap ltlRefusal (a .translated ∙ sym g) ∙ emitted-accepted t e (omega (arith, size-most t e)))
+
+-- ── Line 1 ──
+
+module _ (line l m : List ℕ) (room : length l ≡ 3072) where
+  pub first-refused : {x : Refusal} → FormulaAnswer line l (Line.Refused x) m → Refuses formulaLine formulaLimits line x
+  first-refused (a, _) = refuses-by (λ f. formula-room f (length l) (omega arith)) a
+
+  module _ (n : ℕ) (a : FormulaAnswer line l (Line.Nodes n) m) where
+    abbrev f : Formula
+    f = a .0
+
+    pub first-taken : Takes formulaLine formulaLimits line f
+    first-taken = takes-by (λ g. formula-room g (length l) (omega arith)) (a .1)
+
+    pub first-few : (n ≤ 1024) × (3 * n ≤ length m)
+    first-few =
+        let few = limits-few f (first-taken .within) in
+        let counted = length-numbers (table f) in
+        (omega (arith, a .2), omega (arith, a .2, ap length (a .3) ∙ front-length (numbersOf (table f)) l (omega arith)))
+
+    pub first-table : take (3 * n) m ≡ numbersOf (table f)
+    first-table = ap (take (3 * n)) (a .3) ∙ front-take (numbersOf (table f)) l (3 * n) (omega (arith, a .2, length-numbers (table f)))
+
+    stands : formulaOf (take (3 * n) m) ≡ f
+    stands = ap formulaOf first-table ∙ table-formula f
+
+    accepted : pslRefusal (take (3 * n) m) ≡ none
+    accepted = ap pslRefusal first-table ∙ limits-accepted f (first-taken .within)
+
+    -- There is room for every translation.
+    fits : (k : List ℕ) → length k ≡ 12288 → translateRefusal (take (3 * n) m) (length k) ≡ none
+    unfolding translateRefusal
+    fits k h =
+        let most = size-most (take (3 * n) m) accepted in
+        rw (accepted, le-leb (3 * emittedSize (formulaOf (take (3 * n) m))) (length k) (omega arith))
+
+    pub first-translated : {k k′ : List ℕ} {x : Refusal} → length k ≡ 12288 → Delivers (take (3 * n) m) k (Translation.Refused x) k′ → ⊥
+    first-translated {k} {x = x} h d =
+        let e : Translation.Refused x ≡ Translation.Nodes (emittedSize (formulaOf (take (3 * n) m))) =
+        d .answers ∙ ap (λ (o : Option Refusal). answer o (emittedSize (formulaOf (take (3 * n) m)))) (fits k h) in
+        let z : _≡_ {A = ℕ} 0 1 = cc in omega arith
+
+    pub first-tables : {k k′ : List ℕ} {s : ℕ} → Delivers (take (3 * n) m) k (Translation.Nodes s) k′ → FirstAnswer line (First.Tables n s) m k′
+    first-tables {s = s} d =
+        let out = d .succeeds s refl in (
+          f,
+          first-taken,
+          record { limits = first-taken .within; read = first-table; translated = out .is ∙ ap emitted stands },
+          omega (arith, first-few .0),
+          omega (arith, out .bounded),
+        )
+
+-- ── Later lines ──
+
+-- A verdict that nothing refuses.
+tells : {o : Option Refusal} (A : Type 0) (v : Verdict) → o ≡ none → Judges o A v → Tells A v
+tells A Verdict.Yes e (_, h) = h
+tells A Verdict.No e (_, h) = h
+tells A (Verdict.Refused x) e h = absurd (some-none (sym h ∙ e))
+
+refused-by : {o : Option Refusal} (A : Type 0) (v : Verdict) (x : Refusal) → o ≡ some x → Judges o A v → v ≡ Verdict.Refused x
+refused-by A Verdict.Yes x e (h, _) = absurd (some-none (sym e ∙ h))
+refused-by A Verdict.No x e (h, _) = absurd (some-none (sym e ∙ h))
+refused-by A (Verdict.Refused y) x e h = let q = sym h ∙ e in cc
+
+-- Lists with room for a trace that is not too long.
+abbrev pub room : List ℕ
+room = replicate mostLetters 0
+
+enough : mostLetters ≤ length room
+enough = omega (arith, length-replicate {A = ℕ} 64 0)
+
+module _ (line l m : List ℕ) where
+  pub later-refused : {x : Refusal} → TraceAnswer line room room (TraceLine.Refused x) l m → Refuses lineOfTrace traceLimits line x
+  later-refused (a, _, _) = refuses-by (λ t. trace-room t (length room) (length room) enough enough) a
+
+  module _ (a b : ℕ) (r : TraceAnswer line room room (TraceLine.Letters a b) l m) where
+    abbrev t : Trace
+    t = r .0
+
+    taken : Takes lineOfTrace traceLimits line t
+    taken = takes-by (λ u. trace-room u (length room) (length room) enough enough) (r .1)
+
+    short : size (t .lead) (t .loop) ≤ mostLetters
+    short = limits-short t (taken .within)
+
+    pub letters-few : (a ≤ length l) × (b ≤ length m)
+    letters-few = (
+      omega (arith, r .2, short, enough, ap length (r .4) ∙ front-length (t .lead) room (omega (arith, short, enough))),
+      omega (arith, r .3, short, enough, ap length (r .5) ∙ front-length (t .loop) room (omega (arith, short, enough))),
+    )
+
+    pub later-judged : {psl ltl : List ℕ} {v w : Verdict} → PslJudges psl (take a l) (take b m) v → LtlJudges ltl (take a l) (take b m) w
+        → (f : Formula) → TablesOf f psl ltl → LaterAnswer f line (Later.Verdicts v w)
+    later-judged {psl} {ltl} {v} {w} p q f s =
+        let lead : take a l ≡ t .lead = ap (take a) (r .4) ∙ front-take (t .lead) room a (r .2) in
+        let loop : take b m ≡ t .loop = ap (take b) (r .5) ∙ front-take (t .loop) room b (r .3) in
+        let (ok, ok′) = tables-accepted s in
+        let p′ = subst (λ (x : List ℕ). PslJudges psl x (t .loop) v) lead (subst (λ (x : List ℕ). PslJudges psl (take a l) x v) loop p) in
+        let q′ = subst (λ (x : List ℕ). LtlJudges ltl x (t .loop) w) lead (subst (λ (x : List ℕ). LtlJudges ltl (take a l) x w) loop q) in (
+          t,
+          taken,
+          record {
+            psl = subst (λ (g : Formula). Tells (HoldsOn g (t .lead) (t .loop)) v) (ap formulaOf (s .read) ∙ table-formula f)
+                (tells (HoldsOn (formulaOf psl) (t .lead) (t .loop)) v (psl-fine psl (t .lead) (t .loop) ok short) p′);
+            ltl = λ h. subst (λ (x : List ℕ). Tells (LtlHoldsOn (treeOf x) (t .lead) (t .loop)) w) (s .translated)
+                (tells (LtlHoldsOn (treeOf ltl) (t .lead) (t .loop)) w (ltl-fine ltl (t .lead) (t .loop) ok′ short h) q′);
+            empty = λ h. refused-by (LtlHoldsOn (treeOf ltl) (t .lead) (t .loop)) w (refused 16) (ltl-empty ltl (t .lead) (t .loop) ok′ short (omega arith)) q′;
+          },
+        )

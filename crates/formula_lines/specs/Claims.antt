@@ -1,0 +1,22 @@
+-- What holds of formula lines, each statement proved in `ClaimsLaw`.
+use mathlib.Core.Path.{_≡_}
+use mathlib.Core.Option.{none}
+use mathlib.Core.List.{List}
+use Prim.Native.Nat.{ℕ}
+use Rattle.table.specs.Node.{numbersOf}
+use Rattle.logic.specs.Formula.{Formula}
+use Rattle.psl.specs.Table.{formulaOf}
+use Rattle.psl.specs.Check.{pslRefusal}
+use Rattle.formula_lines.specs.Spelling.{formulaLine}
+use Rattle.formula_lines.specs.Closing.{table}
+use Rattle.formula_lines.specs.FormulaAnswer.{formulaLimits, FormulaAnswer}
+use Rattle.formula_lines.specs.declared.Line.{Line}
+
+pub record Claims : Type 1 where
+  -- No two formulas have one line.
+  pub one-formula : (f g : Formula) → formulaLine f ≡ formulaLine g → f ≡ g
+  -- The table of a formula stands for that formula, and within the limits it passes the PSL check.
+  pub stands-for : (f : Formula) → formulaOf (numbersOf (table f)) ≡ f
+  pub accepted : (f : Formula) → formulaLimits f ≡ none → pslRefusal (numbersOf (table f)) ≡ none
+  -- The reader has one answer, and leaves one content in the lent list.
+  pub formula-answer : (s l : List ℕ) (r r′ : Line) (m m′ : List ℕ) → FormulaAnswer s l r m → FormulaAnswer s l r′ m′ → (r ≡ r′) × (m ≡ m′)

@@ -1,0 +1,3 @@
+-- What the inner functions promise: read these after `FormulaAnswer`.
+pub mod Form
+pub mod Reader

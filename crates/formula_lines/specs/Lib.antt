@@ -1,0 +1,5 @@
+pub mod Spelling
+pub mod Closing
+pub mod FormulaAnswer
+pub mod Claims
+pub mod Inner

@@ -1,0 +1,2 @@
+-- What the inner functions promise: read this after `NodeAnswer`.
+pub mod Writer

@@ -1,0 +1,4 @@
+pub mod Spelling
+pub mod NodeAnswer
+pub mod Claims
+pub mod Inner

@@ -1,0 +1,111 @@
+-- The text of either answer.
+use mathlib.Core.Path.{_≡_, sym}
+use native.Mathlib.Omega.{arith}
+use Prim.Native.Nat.{_*_}
+use lib.ListN.{length}
+use lib.Seq.{length-take-le}
+use Rattle.run.proofs.StreamLaw.{first-refused, first-few, first-tables}
+use borrow.Author.Needs.{needs}
+use Rattle.run.proofs.answer_first.Statement.{statement}
+use Rattle.run.proofs.answer_first.Tie as tie
+
+first-line-requires : tie.Need-first-line-requires
+first-line-requires c κs = search needs
+
+enum-known-x : tie.Need-enum-known-x
+enum-known-x c = search needs
+
+put-refused-requires : tie.Need-put-refused-requires
+put-refused-requires c κs = search needs
+
+enum-known-nodes : tie.Need-enum-known-nodes
+enum-known-nodes c = search needs
+
+mul-end : tie.Need-mul-end
+mul-end c = let x = c .before .before .before .before .before .before .before .before .before .before .before .before .before .before .args in
+    let at-first-line = c .before .before .before .before .before .before .before .first-line in
+    let at-nodes = c .before .nodes in
+    let at-pre = c .before .before .before .before .before .before .before .before .before .before .before .before .before .before .pre in
+    let kept : length (at-first-line .last .1 .1 .0) ≡ length (x .ltl .now) = search needs in
+    let few = first-few (x .line .now) (at-first-line .last .1 .0) (at-first-line .last .1 .1 .0) (at-first-line .result) (at-nodes .given .0 .0) (at-nodes .given .0 .1 .0) (at-first-line .ensures) (at-nodes .given .1) in
+    omega (arith, few .1)
+
+slice-reshare-prefix-put-table : tie.Need-slice-reshare-prefix-put-table
+slice-reshare-prefix-put-table c = let x = c .before .before .before .before .before .before .before .before .before .before .before .before .before .before .before .args in
+    let at-first-line = c .before .before .before .before .before .before .before .before .first-line in
+    let at-nodes = c .before .before .nodes in
+    let at-pre = c .before .before .before .before .before .before .before .before .before .before .before .before .before .before .before .pre in
+    let kept : length (at-first-line .last .1 .1 .0) ≡ length (x .ltl .now) = search needs in
+    let few = first-few (x .line .now) (at-first-line .last .1 .0) (at-first-line .last .1 .1 .0) (at-first-line .result) (at-nodes .given .0 .0) (at-nodes .given .0 .1 .0) (at-first-line .ensures) (at-nodes .given .1) in
+    omega (arith, few .1, kept, at-pre .1)
+
+slice-aggregate-put-table : tie.Need-slice-aggregate-put-table
+slice-aggregate-put-table c = let x = c .before .before .before .before .before .before .before .before .before .before .before .before .before .before .before .before .args in
+    let at-first-line = c .before .before .before .before .before .before .before .before .before .first-line in
+    let at-nodes = c .before .before .before .nodes in
+    let at-pre = c .before .before .before .before .before .before .before .before .before .before .before .before .before .before .before .before .pre in
+    let kept : length (at-first-line .last .1 .1 .0) ≡ length (x .ltl .now) = search needs in
+    let few = first-few (x .line .now) (at-first-line .last .1 .0) (at-first-line .last .1 .1 .0) (at-first-line .result) (at-nodes .given .0 .0) (at-nodes .given .0 .1 .0) (at-first-line .ensures) (at-nodes .given .1) in
+    sym (length-take-le _ _ (omega (arith, few .1, kept, at-pre .1)))
+
+put-table-requires : tie.Need-put-table-requires
+put-table-requires c κs = let x = c .before .before .before .before .before .before .before .before .before .before .before .before .before .before .before .before .args in
+    let at-first-line = c .before .before .before .before .before .before .before .before .before .first-line in
+    let at-nodes = c .before .before .before .nodes in
+    let at-pre = c .before .before .before .before .before .before .before .before .before .before .before .before .before .before .before .before .pre in
+    let kept : length (at-first-line .last .1 .1 .0) ≡ length (x .ltl .now) = search needs in
+    let few = first-few (x .line .now) (at-first-line .last .1 .0) (at-first-line .last .1 .1 .0) (at-first-line .result) (at-nodes .given .0 .0) (at-nodes .given .0 .1 .0) (at-first-line .ensures) (at-nodes .given .1) in
+    omega (arith, length-take-le (3 * at-nodes .given .0 .1 .0) (at-first-line .last .1 .1 .0) (omega (arith, few .1, kept, at-pre .1)), few .1)
+
+same-length : tie.Need-same-length
+same-length c = search needs
+
+same-length-2 : tie.Need-same-length-2
+same-length-2 c = search needs
+
+same-length-3 : tie.Need-same-length-3
+same-length-3 c = search needs
+
+returns : tie.Need-returns
+returns c = let x = c .before .before .before .before .before .before .before .before .before .before .before .before .before .before .before .before .before .before .args in
+    let at-first-line = c .before .before .before .before .before .before .before .before .before .before .before .first-line in
+    let at-put-refused = c .before .before .put-refused in
+    let at-x = c .before .before .before .before .before .x in
+    first-refused (x .line .now) (x .out .now) (at-put-refused .last .0) (at-first-line .last .1 .0) (at-first-line .last .1 .1 .0) (at-first-line .result) (at-first-line .ensures) (at-put-refused .result) (at-x .given .0 .0) (at-x .given .1) (at-put-refused .ensures .0) (at-put-refused .ensures .1)
+
+same-length-4 : tie.Need-same-length-4
+same-length-4 c = search needs
+
+same-length-5 : tie.Need-same-length-5
+same-length-5 c = search needs
+
+same-length-6 : tie.Need-same-length-6
+same-length-6 c = search needs
+
+returns-2 : tie.Need-returns-2
+returns-2 c = let x = c .before .before .before .before .before .before .before .before .before .before .before .before .before .before .before .before .before .before .before .args in
+    let at-first-line = c .before .before .before .before .before .before .before .before .before .before .before .before .first-line in
+    let at-nodes = c .before .before .before .before .before .before .nodes in
+    let at-put-table = c .before .before .put-table in
+    first-tables (x .line .now) (x .out .now) (at-put-table .last .0) (at-first-line .last .1 .0) (at-first-line .last .1 .1 .0) (at-first-line .result) (at-first-line .ensures) (at-put-table .result) (at-nodes .given .0 .0) (at-nodes .given .0 .1 .0) (at-nodes .given .1) (at-put-table .ensures .0) (at-put-table .ensures .1)
+
+pub answer-first-spec : {M : Type 1} → statement M
+answer-first-spec =
+    tie.close
+    (tie.spec
+    first-line-requires
+    enum-known-x
+    put-refused-requires
+    enum-known-nodes
+    mul-end
+    slice-reshare-prefix-put-table
+    slice-aggregate-put-table
+    put-table-requires
+    same-length
+    same-length-2
+    same-length-3
+    returns
+    same-length-4
+    same-length-5
+    same-length-6
+    returns-2)

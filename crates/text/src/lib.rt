@@ -1,0 +1,3 @@
+// Bytes, words and numbers of a line: read at a place, put into a lent list.
+pub mod put;
+pub mod scan;

@@ -1,0 +1,4 @@
+pub mod Spelling
+pub mod TraceAnswer
+pub mod Claims
+pub mod Inner

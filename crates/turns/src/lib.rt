@@ -1,0 +1,90 @@
+// A run on standard input and output: each turn reads a block, has it taken, and writes what it printed.
+use libc::STDERR_FILENO;
+use libc::STDIN_FILENO;
+use libc::STDOUT_FILENO;
+use run::State;
+use run::advance;
+ghost use mathlib.Core.Path.{_≡_};
+ghost use mathlib.Core.Logic.{_⊎_};
+ghost use mathlib.Core.Bool.{true};
+ghost use Rattle.run.specs.Inner.{Within, idle};
+ghost use Rattle.turns.specs.Turn.{stopped, Turned};
+
+// A line's bytes that are kept: one more than a line may have, so that a longer one is seen to be.
+const LINE_ROOM: usize = 16385;
+// The most bytes of a block of input.
+const BLOCK: usize = 16384;
+// Room for what a block prints, at most 107,000 bytes for line 1 and 60 for each byte, and for one more answer to line 1.
+const OUT_ROOM: usize = 1200000;
+// Line numbers above this could overflow within a block of input.
+const LAST_LINE: u64 = u64::MAX - 16384;
+
+// The run stops before its input ends.
+fn stop(s: State) -> State
+    ensures { λ r. ⌜ r ≡ stopped s ⌝ }
+{
+    let mut r = s;
+    r.gathered = 0;
+    r.more = false;
+    r.failed = true;
+    r
+}
+
+// A read failed. One that was interrupted is tried again; any other is told and stops the run, so that half a line is never taken for one.
+fn unread(s: State) -> State
+    ensures { λ r. ⌜ (r ≡ idle s) ⊎ (r ≡ stopped s) ⌝ }
+{
+    if os::errno() == libc::EINTR {
+        let mut r = s;
+        r.gathered = 0;
+        return r;
+    }
+    os::fail(b"psl2ltl: standard input");
+    stop(s)
+}
+
+// One block: it is read, taken, and what it prints is written. A run of more lines than can be counted stops too.
+fn turn(line: &mut [u8], psl: &mut [u16], ltl: &mut [u16], out: &mut [u8], s: State) -> State
+    requires { ⌜ Within s (now line) (now psl) (now ltl) (now out) × (s .more ≡ true) ⌝ }
+    ensures { λ r. ⌜ Turned (now (line .entry)) (now (psl .entry)) (now (ltl .entry)) s r (now (line .exit)) (now (psl .exit)) (now (ltl .exit)) (now (out .exit)) ⌝ }
+{
+    if LAST_LINE < s.number {
+        io::write_all(STDERR_FILENO, b"psl2ltl: more lines than can be counted\n");
+        return stop(s);
+    }
+    let mut block = [0u8; BLOCK];
+    let got = libc::read(STDIN_FILENO, &mut block);
+    if got < 0 {
+        return unread(s);
+    }
+    let n = io::count(got, &block);
+    let r = advance(&block[..n], line, psl, ltl, out, s);
+    let end = r.gathered;
+    if io::write_all(STDOUT_FILENO, &out[..end]) {
+        return r;
+    }
+    os::fail(b"psl2ltl: standard output");
+    stop(r)
+}
+
+// Standard input to its end, or to a refused first line.
+pub fn whole() {
+    let mut line = [0u8; LINE_ROOM];
+    let mut psl = [0u16; 3072];
+    let mut ltl = [0u16; 12288];
+    let mut out = [0u8; OUT_ROOM];
+    let mut s = State {
+        number: 1,
+        filled: 0,
+        nodes: 0,
+        size: 0,
+        gathered: 0,
+        more: true,
+        failed: false,
+    };
+    let mut turns = u64::MAX;
+    while turns > 0 {
+        s = turn(&mut line, &mut psl, &mut ltl, &mut out, s);
+        turns = if s.more { turns - 1 } else { 0 };
+    }
+}
