@@ -108,12 +108,12 @@ module _ (own : ℕ) where
       (λ c. search needs)
       (λ c. search needs)
       -- weak, strong
-      (λ c κs. let n = c .before in boolean n (law n tells-literal (start n .pre .1 .2) (omega arith) .0))
+      (λ c κs. let n = c .before in boolean n (law n tells-literal (omega arith) (omega arith) .0))
       (λ c κs. search needs)
       (λ c lead loop few p vs.
       let b = c .before in
       let n = b .before .before in
-      law n tells-literal (start n .pre .1 .2) (omega arith) .1 lead loop (start n .args .a) (start n .args .r) _
+      law n tells-literal (omega arith) (omega arith) .1 lead loop (start n .args .a) (start n .args .r) _
       (λ x y A R. c .gate .ensures lead loop x _ y few A (b .boolean-row .ensures lead loop few vs) R))
       -- not
       (λ c κs. let n = arm (c .before) in formula n (law n is-not (omega arith) .0))
