@@ -11,7 +11,7 @@ use Rattle.psl.specs.Check.{pslRefusal}
 use Rattle.psl.proofs.AcceptedLaw.{Boolean, Formula, kind-known, is-not, is-and, is-next, is-until, is-abort}
 use Rattle.translate.specs.Translation.{treeB, translated}
 use Rattle.rows.proofs.RowLaw.{tells-not, tells-and}
-use Rattle.verdict.proofs.ArmLaw.{as-formula, tells-literal}
+use Rattle.verdict.proofs.ArmLaw.{as-formula, literal-node}
 use borrow.Fn.Kinds.{In}
 use borrow.Fn.PlainCycle.{Measures, is, falls, and}
 use Rattle.verdict.proofs.formula_row.Reads.{Pre, Post}
@@ -108,13 +108,13 @@ module _ (own : ℕ) where
       (λ c. search needs)
       (λ c. search needs)
       -- weak, strong
-      (λ c κs. let n = c .before in boolean n (law n tells-literal (omega arith) (omega arith) .0))
+      (λ c κs. let n = c .before in boolean n (law n literal-node (omega arith) (omega arith) .operand))
       (λ c κs. search needs)
       (λ c lead loop few p vs.
       let b = c .before in
       let n = b .before .before in
-      law n tells-literal (omega arith) (omega arith) .1 lead loop (start n .args .a) (start n .args .r) _
-      (λ x y A R. c .gate .ensures lead loop x _ y few A (b .boolean-row .ensures lead loop few vs) R))
+      law n literal-node (omega arith) (omega arith) .tells lead loop (start n .args .a) (start n .args .r) _
+      (λ x y m. c .gate .ensures lead loop x _ y few (m .accept) (b .boolean-row .ensures lead loop few vs) (m .reject)))
       -- not
       (λ c κs. let n = arm (c .before) in formula n (law n is-not (omega arith) .0))
       -- and
@@ -135,34 +135,37 @@ module _ (own : ℕ) where
       -- what not, and, next, until and abort tell
       (λ c lead loop few p vs.
       let n = arm (c .before .before) in
-      as-formula (law n is-not (omega arith) .1)
-      (λ x y A R. tells-not few (c .formula-row .ok) (c .formula-row .ensures lead loop few p vs y x R A)))
+      as-formula (law n is-not (omega arith) .1) (λ x y m.
+      tells-not few (c .formula-row .ok) (c .formula-row .ensures lead loop few p vs y x (record { accept = m .reject; reject = m .accept }))))
       (λ c lead loop few p vs.
       let f = c .before in
       let n = arm (f .before .before) in
-      as-formula (law n is-and (omega arith) .2)
-      (λ x y A R. tells-and few (f .formula-row2 .ensures lead loop few p vs x y A R) (c .formula-row3 .ensures lead loop few p vs x y A R)))
+      as-formula (law n is-and (omega arith) .2) (λ x y m.
+      tells-and few (f .formula-row2 .ensures lead loop few p vs x y m) (c .formula-row3 .ensures lead loop few p vs x y m)))
       (λ c lead loop few p vs.
       let next = c .before in
       let f = next .before in
       let n = arm (f .before .before) in
-      as-formula (law n is-next (omega arith) .1)
-      (λ x y A R. c .gate2 .ensures lead loop x _ y few A
-      (next .next-row .ensures lead loop (translated (formulaAt (table n) (left n)) x y) few p (f .formula-row4 .ensures lead loop few p vs x y A R)) R))
+      as-formula (law n is-next (omega arith) .1) (λ x y m.
+      let F = f .formula-row4 .ensures lead loop few p vs x y m in
+      let N = next .next-row .ensures lead loop (translated (formulaAt (table n) (left n)) x y) few p F in
+      c .gate2 .ensures lead loop x _ y few (m .accept) N (m .reject)))
       (λ c lead loop few p vs.
       let g = c .before in
       let f = g .before in
       let n = arm (f .before .before) in
-      as-formula (law n is-until (omega arith) .2)
-      (λ x y A R. c .until-row .ensures lead loop (translated (formulaAt (table n) (left n)) x y) (translated (formulaAt (table n) (right n)) x y) few p
-      (f .formula-row5 .ensures lead loop few p vs x y A R) (g .formula-row6 .ensures lead loop few p vs x y A R)))
+      as-formula (law n is-until (omega arith) .2) (λ x y m.
+      let F = f .formula-row5 .ensures lead loop few p vs x y m in
+      let G = g .formula-row6 .ensures lead loop few p vs x y m in
+      c .until-row .ensures lead loop (translated (formulaAt (table n) (left n)) x y) (translated (formulaAt (table n) (right n)) x y) few p F G))
       (λ c lead loop few p vs.
       let gate = c .before in
       let b = gate .before in
       let n = arm (b .before .before) in
-      as-formula (law n is-abort (last-arm (b .before)) .2)
-      (λ x y A R. c .formula-row7 .ensures lead loop few p vs _ y
-      (gate .gate3 .ensures lead loop x (treeB (booleanAt (table n) (right n))) y few A (b .boolean-row2 .ensures lead loop few vs) R) R))
+      as-formula (law n is-abort (last-arm (b .before)) .2) (λ x y m.
+      let B = b .boolean-row2 .ensures lead loop few vs in
+      let A = gate .gate3 .ensures lead loop x (treeB (booleanAt (table n) (right n))) y few (m .accept) B (m .reject) in
+      c .formula-row7 .ensures lead loop few p vs _ y (record { accept = A; reject = m .reject })))
 
 pub +formula-row-spec : {M : Type 1} → statement M
 +formula-row-spec = close μ (λ own. met own)
