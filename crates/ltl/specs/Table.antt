@@ -2,7 +2,7 @@
 use Prim.Native.Nat.{ℕ}
 use mathlib.Core.List.{List, [], _∷_}
 use lib.ListN.{getD}
-use Rattle.table.specs.Node.{Node, node, root}
+use Rattle.table.specs.Node.{Node, node, root, valueAt}
 use Rattle.logic.specs.Tree.{Ltl, ltrue, lvar, lnot, land, lor, lnext, luntil}
 
 -- What each kind stands for, kind by kind from 0 on, with the trees that stand under its operands' numbers.
@@ -22,3 +22,7 @@ treeOfNode x (node k l r) =
 -- The tree of a table is its root's.
 unfoldable pub treeOf : List ℕ → Ltl
 treeOf t = root ltrue treeOfNode t
+
+-- The tree of node i.
+unfoldable pub treeAt : List ℕ → ℕ → Ltl
+treeAt t i = valueAt ltrue treeOfNode t i

@@ -9,10 +9,10 @@ use lib.ListN.{length, getD}
 use Rattle.logic.specs.Letter.{bit, signals}
 use Rattle.trace.specs.Limits.{mostLetters}
 use Rattle.logic.specs.Trace.{letterAt, size, InTrace}
-use Rattle.table.specs.Node.{node}
+use Rattle.table.specs.Node.{node, count}
 use Rattle.logic.specs.Tree.{Ltl, lvar}
 use Rattle.logic.specs.LtlMeaning.{LtlHolds}
-use Rattle.ltl.specs.Table.{treeOfNode}
+use Rattle.ltl.specs.Table.{treeOfNode, treeAt}
 
 -- The place of moment m: how many letters of both lists stand after its letter. Past the lead-in it goes round the loop.
 unfoldable pub place : List ℕ → List ℕ → ℕ → ℕ
@@ -50,3 +50,7 @@ pub record Swept (f g : ℕ) (carry : Bool) (r : ℕ) : Type 0 where
 abbrev pub TellsNode : List ℕ → List ℕ → ℕ → ℕ → ℕ → ℕ → ℕ → Type 0
 TellsNode lead loop k l a b w =
     (x : ℕ → Ltl) (r : ℕ) → (2 ≤ k → Tells lead loop a (x l)) → (2 ≤ k → Tells lead loop b (x r)) → Tells lead loop w (treeOfNode x (node k l r))
+
+-- Word i of a list is the row of node i, for each node of LTL table t.
+pub record RowsOf (lead loop t rows : List ℕ) : Type 0 where
+  pub row : (i : ℕ) → i < count t → Tells lead loop (getD rows i 0) (treeAt t i)

@@ -12,7 +12,7 @@ use Rattle.logic.specs.Formula.{BoolExpr, btrue, var, bnot, band, Formula, weak
 use Rattle.psl.specs.Size.{weighB, weigh}
 use Rattle.psl.specs.Check.{pslRefusal}
 use Rattle.psl.specs.Parts.{booleanAt, formulaAt}
-use Rattle.psl.proofs.AcceptedLaw.{Boolean, Formula as IsFormula, kind-known, is-bnot, is-band, is-weak, is-strong, is-and, is-until}
+use Rattle.psl.proofs.AcceptedLaw.{Boolean, Formula as IsFormula, kind-known, is-weak, is-strong, is-and, is-until}
 use Rattle.translate.specs.Emitted.{varN, notN, andN, nextN, untilN, adds, walkB, gate, literal, walk}
 use Rattle.translate.specs.Stored.{Walks}
 use Rattle.translate.proofs.StoredLaw.{walks-then, walks-both}
@@ -90,6 +90,13 @@ weight-pos (next f) = omega arith
 weight-pos (until f g) = omega arith
 weight-pos (abort f b) = omega arith
 
+-- A walk stores a node: the next number has one before it.
+pub some-boolean : (b : BoolExpr) {n m : ℕ} {old now : List ℕ} → WalksB b n m old now → 1 ≤ m
+some-boolean b w = omega (arith, w .next, weightB-pos b)
+
+pub some-formula : (f : Formula) (a r : ℕ) {n m : ℕ} {old now : List ℕ} → WalksF f a r n m old now → 1 ≤ m
+some-formula f a r w = omega (arith, w .next, weight-pos f)
+
 -- ── Booleans ──
 
 as-boolean : {b c : BoolExpr} {n m : ℕ} {old now : List ℕ} → b ≡ c → WalksB c n m old now → WalksB b n m old now
@@ -117,15 +124,6 @@ arm-band e w v u = as-boolean e (walks-both (λ i j ns. ns ▸ andN i j) (weight
 pub arm-literal : (b : BoolExpr) (a r : ℕ) {n m p : ℕ} {old mid now : List ℕ} → WalksB b n m old mid → Walks 3 (gate (m - 1) a r) m p mid now
     → Walks (weighB adds b + 3) (literal b a r) n p old now
 arm-literal b a r w v = walks-then (λ i. gate i a r) refl w v
-
--- The left operand of a bnot or a band, and that its nodes are fewer.
-pub left-boolean : (t : List ℕ) → pslRefusal t ≡ none → (i : ℕ) → i < count t → (kindAt t i ≡ 0 → ⊥) → (kindAt t i ≡ 1 → ⊥) → kindAt t i < 4
-    → Boolean t i (leftAt t i) × (weighB adds (booleanAt t (leftAt t i)) + 1 ≤ weighB adds (booleanAt t i))
-left-boolean t s i h n0 n1 u = go (decLt (kindAt t i) 3)
-  where
-    go : Dec (kindAt t i < 3) → Boolean t i (leftAt t i) × (weighB adds (booleanAt t (leftAt t i)) + 1 ≤ weighB adds (booleanAt t i))
-    go (yes d) = let b = is-bnot t s i h (omega arith) in (b .0, omega (arith, weight-bnot (b .1)))
-    go (no d) = let b = is-band t s i h (omega arith) in (b .0, omega (arith, weight-band (b .2), weightB-pos (booleanAt t (rightAt t i))))
 
 -- ── Formulas ──
 

@@ -57,18 +57,19 @@ fn walk_boolean(t: &[u16], i: NodeNo, out: &mut [u16], n: NodeNo) -> NodeNo
     let kind = t[at];
     let left = t[at + 1];
     let right = t[at + 2];
-    if kind == 0 {
-        return append(out, n, 0, 0, 0);
+    match kind {
+        0 => append(out, n, 0, 0, 0),
+        1 => append(out, n, 1, left, 0),
+        2 => {
+            let m = walk_boolean(t, NodeNo(left), out, n);
+            append(out, m, 2, m.0 - 1, 0)
+        }
+        _ => {
+            let m = walk_boolean(t, NodeNo(left), out, n);
+            let p = walk_boolean(t, NodeNo(right), out, m);
+            append(out, p, 3, m.0 - 1, p.0 - 1)
+        }
     }
-    if kind == 1 {
-        return append(out, n, 1, left, 0);
-    }
-    let m = walk_boolean(t, NodeNo(left), out, n);
-    if kind == 2 {
-        return append(out, m, 2, m.0 - 1, 0);
-    }
-    let p = walk_boolean(t, NodeNo(right), out, m);
-    append(out, p, 3, m.0 - 1, p.0 - 1)
 }
 
 // A Boolean under its gate: weak, strong, and an abort's condition.

@@ -4,7 +4,7 @@ ghost use mathlib.Core.Bool.{cond};
 ghost use mathlib.Core.Option.{none};
 ghost use mathlib.Core.Logic.{_↔_};
 ghost use mathlib.Core.List.{List};
-ghost use Prim.Native.Nat.{ℕ, _+_, _-_, _<_, _≤_};
+ghost use Prim.Native.Nat.{ℕ, _<_, _≤_};
 ghost use lib.Dec.{T};
 ghost use lib.ListN.{length, getD};
 ghost use Rattle.logic.specs.Letter.{signals};
@@ -20,7 +20,7 @@ ghost use Rattle.logic.specs.LtlMeaning.{LtlHoldsOn};
 ghost use Rattle.ltl.specs.Table.{treeOf};
 ghost use Rattle.logic.specs.Empty.{onEmpty};
 ghost use Rattle.logic.specs.Translation.{treeB};
-ghost use Rattle.rows.specs.Rows.{Tells, Few};
+ghost use Rattle.rows.specs.Rows.{Tells, Few, RowsOf};
 ghost use Rattle.verdict.specs.Rows.{TellsFormula, SignalRows};
 ghost use Rattle.verdict.specs.Verdict.{PslJudges, LtlJudges};
 use logic::Letter;
@@ -126,7 +126,7 @@ fn word(list: &[Row], n: u16) -> Row
 // The rows of all nodes of an LTL table, from node 0 up.
 fn fill_rows(t: &[u16], lead: &[Letter], cycle: &[Letter], told: &mut [Row])
     requires { ⌜ (ltlRefusal (now t) ≡ none) × Few (now lead) (now cycle) × (count (now t) ≤ length (now told)) ⌝ }
-    ensures { λ _. ⌜ Tells (now (lead .entry)) (now (cycle .entry)) (getD (now (told .exit)) (count (now (t .entry)) - 1) 0) (treeOf (now (t .entry))) ⌝ }
+    ensures { λ _. ⌜ RowsOf (now (lead .entry)) (now (cycle .entry)) (now (t .entry)) (now (told .exit)) ⌝ }
 {
     let n = t.len() / 3;
     let period = cycle.len();

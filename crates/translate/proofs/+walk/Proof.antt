@@ -2,16 +2,23 @@
 use borrow.Author.Needs.{needs}
 use native.Mathlib.Omega.{arith}
 use mathlib.Core.Path.{_≡_}
-use Prim.Native.Nat.{ℕ, _<_}
-use Rattle.table.specs.Node.{kindAt, leftAt, rightAt}
+use mathlib.Core.Option.{none}
+use mathlib.Core.List.{List}
+use Prim.Native.Nat.{ℕ, _+_, _≤_, _<_}
+use lib.ListN.{length}
+use Rattle.table.specs.Node.{count, kindAt}
+use Rattle.psl.specs.Size.{weigh}
 use Rattle.psl.specs.Parts.{formulaAt}
-use Rattle.psl.proofs.AcceptedLaw.{is-not, is-next, is-abort}
-use Rattle.translate.proofs.ArmLaw.{weight-not, weight-next, weight-abort, weight-pos, literal-node, joined-node, arm-not, arm-next, arm-abort}
+use Rattle.psl.specs.Check.{pslRefusal}
+use Rattle.psl.proofs.AcceptedLaw.{Boolean, Formula, is-not, is-next, is-abort}
+use Rattle.translate.specs.Emitted.{adds}
+use Rattle.translate.specs.Stored.{Room}
+use Rattle.translate.proofs.ArmLaw.{weight-not, weight-next, weight-abort, some-formula, literal-node, Joined, joined-node, arm-not, arm-next, arm-abort}
 use borrow.Fn.Kinds.{In}
 use borrow.Fn.PlainCycle.{Measures, is, falls, and}
-use Rattle.translate.proofs.walk.Reads as walk
-use Rattle.translate.proofs.walk.Kinds as walk-kinds
-use Rattle.translate.proofs.+walk.Lts-walk as walk-lts
+use Rattle.translate.proofs.walk.Reads.{Pre, Post}
+use Rattle.translate.proofs.walk.Kinds.{ps}
+use Rattle.translate.proofs.+walk.Lts-walk as lts
 use Rattle.translate.proofs.append.Reads as append-reads
 use Rattle.translate.proofs.gate.Reads as gate-reads
 use Rattle.translate.proofs.joining.Reads as joining-reads
@@ -19,166 +26,215 @@ use Rattle.translate.proofs.literal.Reads as literal-reads
 use Rattle.translate.proofs.+walk.{statement}
 use Rattle.translate.proofs.+walk.Tie.{close}
 
-abbrev μ-walk : Measures 2 walk-kinds.ps ℕ
-μ-walk κs a = a .1 .0 .0
+abbrev μ : Measures 2 ps ℕ
+μ κs a = a .1 .0 .0
 
-abbrev walk-at : ℕ → In 2 walk-kinds.ps
-walk-at t = and 2 walk-kinds.ps (is 2 walk-kinds.ps μ-walk t) walk.Pre
+-- At a node of number `own`; calls are for nodes below it.
+module _ (own : ℕ) where
+  abbrev At : In 2 ps
+  At = and 2 ps (is 2 ps μ own) Pre
 
-abbrev walk-below : ℕ → In 2 walk-kinds.ps
-walk-below t = and 2 walk-kinds.ps (falls 2 walk-kinds.ps _<_ μ-walk t) walk.Pre
+  abbrev Below : In 2 ps
+  Below = and 2 ps (falls 2 ps _<_ μ own) Pre
 
-abbrev claims : ℕ → walk-lts.Claims
-claims t = (literal-reads.Asked, literal-reads.Learnt, walk-below t, walk.Post, append-reads.Asked, append-reads.Learnt, gate-reads.Asked, gate-reads.Learnt, joining-reads.Asked, joining-reads.Learnt)
+  abbrev claims : lts.Claims
+  claims = (
+    literal-reads.Asked,
+    literal-reads.Learnt,
+    Below,
+    Post,
+    append-reads.Asked,
+    append-reads.Learnt,
+    gate-reads.Asked,
+    gate-reads.Learnt,
+    joining-reads.Asked,
+    joining-reads.Learnt,
+  )
 
-walk-cast-at : (t : ℕ) → walk-lts.Need-cast-at (claims t) (walk-at t) walk.Post
-walk-cast-at t c = search needs
+  -- ── Places ──
 
-walk-mul-at : (t : ℕ) → walk-lts.Need-mul-at (claims t) (walk-at t) walk.Post
-walk-mul-at t c = search needs
+  -- Where the node's three numbers are read.
+  abbrev Read : Type 0
+  Read = lts.After-shared-slice-known4 claims At Post
 
-walk-mul-kind : (t : ℕ) → walk-lts.Need-mul-kind (claims t) (walk-at t) walk.Post
-walk-mul-kind t c = search needs
+  abbrev start : Read → lts.Start claims At Post
+  start n = n .before .before .before .before .before .before
 
-walk-shared-slice-read-kind : (t : ℕ) → walk-lts.Need-shared-slice-read-kind (claims t) (walk-at t) walk.Post
-walk-shared-slice-read-kind t c = search needs
+  abbrev arm : lts.Else1 claims At Post → Read
+  arm e = e .before
 
-walk-add-t17 : (t : ℕ) → walk-lts.Need-add-t17 (claims t) (walk-at t) walk.Post
-walk-add-t17 t c = search needs
+  -- In the arms of not and next the operand's walk, and the node put on it; in that of abort the condition's; in that of and and until
+  -- the left and the right operand's.
+  abbrev under-not : lts.After-struct-known2 claims At Post → lts.After-walk claims At Post
+  under-not c = c .before .before .before .before
 
-walk-mul-t20 : (t : ℕ) → walk-lts.Need-mul-t20 (claims t) (walk-at t) walk.Post
-walk-mul-t20 t c = search needs
+  abbrev under-next : lts.After-struct-known3 claims At Post → lts.After-walk2 claims At Post
+  under-next c = c .before .before .before .before
 
-walk-shared-slice-read-t19 : (t : ℕ) → walk-lts.Need-shared-slice-read-t19 (claims t) (walk-at t) walk.Post
-walk-shared-slice-read-t19 t c = search needs
+  abbrev next-put : lts.After-gate-arg claims At Post → lts.After-append2 claims At Post
+  next-put c = c .before .before .before
 
-walk-add-t17-2 : (t : ℕ) → walk-lts.Need-add-t17-2 (claims t) (walk-at t) walk.Post
-walk-add-t17-2 t c = search needs
+  abbrev condition : lts.After-struct-known4 claims At Post → lts.After-literal2 claims At Post
+  condition c = c .before .before .before
 
-walk-mul-t20-2 : (t : ℕ) → walk-lts.Need-mul-t20-2 (claims t) (walk-at t) walk.Post
-walk-mul-t20-2 t c = search needs
+  abbrev right : lts.After-joining claims At Post → lts.After-walk5 claims At Post
+  right c = c .before .before .before .before
 
-walk-shared-slice-read-t19-2 : (t : ℕ) → walk-lts.Need-shared-slice-read-t19-2 (claims t) (walk-at t) walk.Post
-walk-shared-slice-read-t19-2 t c = search needs
+  abbrev left : lts.After-walk-arg5 claims At Post → lts.After-walk4 claims At Post
+  left c = c .before .before .before
 
-walk-literal-requires : (t : ℕ) → walk-lts.Need-literal-requires (claims t) (walk-at t) walk.Post
-walk-literal-requires t c κs = let th = c .before in let S = th .before in let st = S .before .before .before .before .before .before in let T = st .args .t .now in let i = st .args .i .0 in let a = st .args .a .0 in let r = st .args .r .0 in let P = st .pre .1 in let L = literal-node T (P .0) i (P .1) (P .2) (th .if1 .taken) in (P .0, omega (arith, L .operand .0, P .1), L .operand .1, record { space = omega (arith, L .weight, P .3 .space); fits = omega (arith, L .weight, P .3 .fits) })
+  -- ── The node ──
 
-walk-same-length : (t : ℕ) → walk-lts.Need-same-length (claims t) (walk-at t) walk.Post
-walk-same-length t c = search needs
+  abbrev table : Read → List ℕ
+  table n = start n .args .t .now
 
-walk-returns : (t : ℕ) → walk-lts.Need-returns (claims t) (walk-at t) walk.Post
-walk-returns t c = let A = c .before .before in let th = A .before .before in let S = th .before in let st = S .before .before .before .before .before .before in let T = st .args .t .now in let i = st .args .i .0 in let a = st .args .a .0 in let r = st .args .r .0 in let P = st .pre .1 in let L = literal-node T (P .0) i (P .1) (P .2) (th .if1 .taken) in L .arm a r (A .literal .ensures)
+  abbrev node : Read → ℕ
+  node n = start n .args .i .0
 
-walk-walk-requires : (t : ℕ) → walk-lts.Need-walk-requires (claims t) (walk-at t) walk.Post
-walk-walk-requires t c κs = let K = c .before in let S = K .before .before in let st = S .before .before .before .before .before .before in let T = st .args .t .now in let i = st .args .i .0 in let a = st .args .a .0 in let r = st .args .r .0 in let P = st .pre .1 in let e : kindAt T i ≡ 6 = K .match .keys1 in let N = is-not T (P .0) i (P .1) e in let w = weight-not (N .1) in let pos = weight-pos (formulaAt T (leftAt T i)) in (omega (arith, N .0 .0, st .pre .0), (P .0, omega (arith, N .0 .0, P .1), N .0 .1, record { space = omega (arith, w, P .3 .space); fits = omega (arith, w, P .3 .fits) }))
+  abbrev weight : Read → ℕ
+  weight n = weigh adds (formulaAt (table n) (node n))
 
-walk-sub-append : (t : ℕ) → walk-lts.Need-sub-append (claims t) (walk-at t) walk.Post
-walk-sub-append t c = let W = c .before .before .before .before in let K = W .before .before in let S = K .before .before in let st = S .before .before .before .before .before .before in let T = st .args .t .now in let i = st .args .i .0 in let a = st .args .a .0 in let r = st .args .r .0 in let P = st .pre .1 in let e : kindAt T i ≡ 6 = K .match .keys1 in let N = is-not T (P .0) i (P .1) e in let w = weight-not (N .1) in let pos = weight-pos (formulaAt T (leftAt T i)) in omega (arith, W .walk .ensures .next, pos)
+  -- The numbers of accept and reject.
+  abbrev accept : Read → ℕ
+  accept n = start n .args .a .0
 
-walk-append-requires : (t : ℕ) → walk-lts.Need-append-requires (claims t) (walk-at t) walk.Post
-walk-append-requires t c κs = let W = c .before .before .before .before in let K = W .before .before in let S = K .before .before in let st = S .before .before .before .before .before .before in let T = st .args .t .now in let i = st .args .i .0 in let a = st .args .a .0 in let r = st .args .r .0 in let P = st .pre .1 in let e : kindAt T i ≡ 6 = K .match .keys1 in let N = is-not T (P .0) i (P .1) e in let w = weight-not (N .1) in let pos = weight-pos (formulaAt T (leftAt T i)) in record { space = omega (arith, w, W .walk .ensures .next, P .3 .space); fits = omega (arith, w, W .walk .ensures .next, P .3 .fits) }
+  abbrev reject : Read → ℕ
+  reject n = start n .args .r .0
 
-walk-walk-requires-2 : (t : ℕ) → walk-lts.Need-walk-requires-2 (claims t) (walk-at t) walk.Post
-walk-walk-requires-2 t c κs = let K = c .before in let S = K .before .before in let st = S .before .before .before .before .before .before in let T = st .args .t .now in let i = st .args .i .0 in let a = st .args .a .0 in let r = st .args .r .0 in let P = st .pre .1 in let e : kindAt T i ≡ 8 = K .match .keys2 in let N = is-next T (P .0) i (P .1) e in let w = weight-next (N .1) in let pos = weight-pos (formulaAt T (leftAt T i)) in (omega (arith, N .0 .0, st .pre .0), (P .0, omega (arith, N .0 .0, P .1), N .0 .1, record { space = omega (arith, w, P .3 .space); fits = omega (arith, w, P .3 .fits) }))
+  -- A law of an accepted table's nodes, for this one.
+  abbrev law : {R : List ℕ → ℕ → Type 0} (n : Read)
+      → ((t : List ℕ) → pslRefusal t ≡ none → (i : ℕ) → i < count t → R t i) → R (table n) (node n)
+  law n l = l (table n) (start n .pre .1 .0) (node n) (start n .pre .1 .1)
 
-walk-sub-append-2 : (t : ℕ) → walk-lts.Need-sub-append-2 (claims t) (walk-at t) walk.Post
-walk-sub-append-2 t c = let W = c .before .before .before .before in let K = W .before .before in let S = K .before .before in let st = S .before .before .before .before .before .before in let T = st .args .t .now in let i = st .args .i .0 in let a = st .args .a .0 in let r = st .args .r .0 in let P = st .pre .1 in let e : kindAt T i ≡ 8 = K .match .keys2 in let N = is-next T (P .0) i (P .1) e in let w = weight-next (N .1) in let pos = weight-pos (formulaAt T (leftAt T i)) in omega (arith, W .walk2 .ensures .next, pos)
+  -- There is room for what the node stores, so for a part of it too.
+  room : (n : Read) {v m : ℕ} {now : List ℕ}
+      → length now ≡ length (start n .args .out .now) → m + v ≤ start n .args .n .0 + weight n → Room v m now
+  room n l h = let R = start n .pre .1 .3 in record { space = omega (arith, R .space); fits = omega (arith, R .fits) }
 
-walk-append-requires-2 : (t : ℕ) → walk-lts.Need-append-requires-2 (claims t) (walk-at t) walk.Post
-walk-append-requires-2 t c κs = let W = c .before .before .before .before in let K = W .before .before in let S = K .before .before in let st = S .before .before .before .before .before .before in let T = st .args .t .now in let i = st .args .i .0 in let a = st .args .a .0 in let r = st .args .r .0 in let P = st .pre .1 in let e : kindAt T i ≡ 8 = K .match .keys2 in let N = is-next T (P .0) i (P .1) e in let w = weight-next (N .1) in let pos = weight-pos (formulaAt T (leftAt T i)) in record { space = omega (arith, w, W .walk2 .ensures .next, P .3 .space); fits = omega (arith, w, W .walk2 .ensures .next, P .3 .fits) }
+  -- What a call for an operand asks, a Boolean or a formula.
+  boolean : (n : Read) {j v m : ℕ} {now : List ℕ} → Boolean (table n) (node n) j → Room v m now
+      → (pslRefusal (table n) ≡ none) × (j < count (table n)) × (kindAt (table n) j < 4) × Room v m now
+  boolean n b r = let P = start n .pre .1 in (P .0, omega (arith, b .0, P .1), b .1, r)
 
-walk-gate-requires : (t : ℕ) → walk-lts.Need-gate-requires (claims t) (walk-at t) walk.Post
-walk-gate-requires t c κs = let A = c .before .before .before in let W = A .before .before .before .before .before in let K = W .before .before in let S = K .before .before in let st = S .before .before .before .before .before .before in let T = st .args .t .now in let i = st .args .i .0 in let a = st .args .a .0 in let r = st .args .r .0 in let P = st .pre .1 in let e : kindAt T i ≡ 8 = K .match .keys2 in let N = is-next T (P .0) i (P .1) e in let w = weight-next (N .1) in let pos = weight-pos (formulaAt T (leftAt T i)) in record { space = omega (arith, w, W .walk2 .ensures .next, A .append2 .ensures .next, P .3 .space); fits = omega (arith, w, W .walk2 .ensures .next, A .append2 .ensures .next, P .3 .fits) }
+  formula : (n : Read) {j v m : ℕ} {now : List ℕ} → Formula (table n) (node n) j → Room v m now
+      → (j < own) × ((pslRefusal (table n) ≡ none) × (j < count (table n)) × (4 ≤ kindAt (table n) j) × Room v m now)
+  formula n f r = let P = start n .pre in (omega (arith, f .0, P .0), (P .1 .0, omega (arith, f .0, P .1 .1), f .1, r))
 
-walk-literal-requires-2 : (t : ℕ) → walk-lts.Need-literal-requires-2 (claims t) (walk-at t) walk.Post
-walk-literal-requires-2 t c κs = let K = c .before in let S = K .before .before in let st = S .before .before .before .before .before .before in let T = st .args .t .now in let i = st .args .i .0 in let a = st .args .a .0 in let r = st .args .r .0 in let P = st .pre .1 in let e : kindAt T i ≡ 10 = K .match .keys3 in let N = is-abort T (P .0) i (P .1) e in let w = weight-abort (N .2) in let pos = weight-pos (formulaAt T (leftAt T i)) in (P .0, omega (arith, N .1 .0, P .1), N .1 .1, record { space = omega (arith, w, P .3 .space); fits = omega (arith, w, P .3 .fits) })
+  -- In the last arm the node is an and or an until.
+  last-arm : (k : lts.At-match-rest claims At Post) → let n = arm (k .before) in Joined (table n) (node n)
+  last-arm k = law (arm (k .before)) joined-node (omega arith) (λ e. omega arith) (λ e. omega arith) (λ e. omega arith)
 
-walk-sub-t41 : (t : ℕ) → walk-lts.Need-sub-t41 (claims t) (walk-at t) walk.Post
-walk-sub-t41 t c = let W = c .before .before .before in let K = W .before .before in let S = K .before .before in let st = S .before .before .before .before .before .before in let T = st .args .t .now in let i = st .args .i .0 in let a = st .args .a .0 in let r = st .args .r .0 in let P = st .pre .1 in let e : kindAt T i ≡ 10 = K .match .keys3 in let N = is-abort T (P .0) i (P .1) e in let w = weight-abort (N .2) in let pos = weight-pos (formulaAt T (leftAt T i)) in omega (arith, W .literal2 .ensures .next)
+  -- ── The needs, in the order of the code, the arms' answers last ──
 
-walk-walk-requires-3 : (t : ℕ) → walk-lts.Need-walk-requires-3 (claims t) (walk-at t) walk.Post
-walk-walk-requires-3 t c κs = let W = c .before .before .before .before in let K = W .before .before in let S = K .before .before in let st = S .before .before .before .before .before .before in let T = st .args .t .now in let i = st .args .i .0 in let a = st .args .a .0 in let r = st .args .r .0 in let P = st .pre .1 in let e : kindAt T i ≡ 10 = K .match .keys3 in let N = is-abort T (P .0) i (P .1) e in let w = weight-abort (N .2) in let pos = weight-pos (formulaAt T (leftAt T i)) in (omega (arith, N .0 .0, st .pre .0), (P .0, omega (arith, N .0 .0, P .1), N .0 .1, record { space = omega (arith, w, W .literal2 .ensures .next, P .3 .space); fits = omega (arith, w, W .literal2 .ensures .next, P .3 .fits) }))
-
-walk-walk-requires-4 : (t : ℕ) → walk-lts.Need-walk-requires-4 (claims t) (walk-at t) walk.Post
-walk-walk-requires-4 t c κs = let K = c .before in let S = K .before .before in let st = S .before .before .before .before .before .before in let T = st .args .t .now in let i = st .args .i .0 in let a = st .args .a .0 in let r = st .args .r .0 in let P = st .pre .1 in let J = joined-node T (P .0) i (P .1) (omega (arith, K .before .if1 .left)) (K .match .rest .0 .0 .1) (K .match .rest .0 .1) (K .match .rest .1) in let w = J .weight in let pos = weight-pos (formulaAt T (leftAt T i)) in let pos2 = weight-pos (formulaAt T (rightAt T i)) in (omega (arith, J .left .0, st .pre .0), (P .0, omega (arith, J .left .0, P .1), J .left .1, record { space = omega (arith, w, P .3 .space); fits = omega (arith, w, P .3 .fits) }))
-
-walk-walk-requires-5 : (t : ℕ) → walk-lts.Need-walk-requires-5 (claims t) (walk-at t) walk.Post
-walk-walk-requires-5 t c κs = let W = c .before .before .before in let K = W .before .before in let S = K .before .before in let st = S .before .before .before .before .before .before in let T = st .args .t .now in let i = st .args .i .0 in let a = st .args .a .0 in let r = st .args .r .0 in let P = st .pre .1 in let J = joined-node T (P .0) i (P .1) (omega (arith, K .before .if1 .left)) (K .match .rest .0 .0 .1) (K .match .rest .0 .1) (K .match .rest .1) in let w = J .weight in let pos = weight-pos (formulaAt T (leftAt T i)) in let pos2 = weight-pos (formulaAt T (rightAt T i)) in (omega (arith, J .right .0, st .pre .0), (P .0, omega (arith, J .right .0, P .1), J .right .1, record { space = omega (arith, w, W .walk4 .ensures .next, P .3 .space); fits = omega (arith, w, W .walk4 .ensures .next, P .3 .fits) }))
-
-walk-joining-requires : (t : ℕ) → walk-lts.Need-joining-requires (claims t) (walk-at t) walk.Post
-walk-joining-requires t c κs = search needs
-
-walk-sub-append-3 : (t : ℕ) → walk-lts.Need-sub-append-3 (claims t) (walk-at t) walk.Post
-walk-sub-append-3 t c = let X = c .before .before .before .before .before in let W = X .before .before .before .before in let K = W .before .before in let S = K .before .before in let st = S .before .before .before .before .before .before in let T = st .args .t .now in let i = st .args .i .0 in let a = st .args .a .0 in let r = st .args .r .0 in let P = st .pre .1 in let J = joined-node T (P .0) i (P .1) (omega (arith, K .before .if1 .left)) (K .match .rest .0 .0 .1) (K .match .rest .0 .1) (K .match .rest .1) in let w = J .weight in let pos = weight-pos (formulaAt T (leftAt T i)) in let pos2 = weight-pos (formulaAt T (rightAt T i)) in omega (arith, W .walk4 .ensures .next, pos)
-
-walk-sub-append-4 : (t : ℕ) → walk-lts.Need-sub-append-4 (claims t) (walk-at t) walk.Post
-walk-sub-append-4 t c = let X = c .before .before .before .before .before .before in let W = X .before .before .before .before in let K = W .before .before in let S = K .before .before in let st = S .before .before .before .before .before .before in let T = st .args .t .now in let i = st .args .i .0 in let a = st .args .a .0 in let r = st .args .r .0 in let P = st .pre .1 in let J = joined-node T (P .0) i (P .1) (omega (arith, K .before .if1 .left)) (K .match .rest .0 .0 .1) (K .match .rest .0 .1) (K .match .rest .1) in let w = J .weight in let pos = weight-pos (formulaAt T (leftAt T i)) in let pos2 = weight-pos (formulaAt T (rightAt T i)) in omega (arith, X .walk5 .ensures .next, pos2)
-
-walk-append-requires-3 : (t : ℕ) → walk-lts.Need-append-requires-3 (claims t) (walk-at t) walk.Post
-walk-append-requires-3 t c κs = let X = c .before .before .before .before .before .before in let W = X .before .before .before .before in let K = W .before .before in let S = K .before .before in let st = S .before .before .before .before .before .before in let T = st .args .t .now in let i = st .args .i .0 in let a = st .args .a .0 in let r = st .args .r .0 in let P = st .pre .1 in let J = joined-node T (P .0) i (P .1) (omega (arith, K .before .if1 .left)) (K .match .rest .0 .0 .1) (K .match .rest .0 .1) (K .match .rest .1) in let w = J .weight in let pos = weight-pos (formulaAt T (leftAt T i)) in let pos2 = weight-pos (formulaAt T (rightAt T i)) in record { space = omega (arith, w, W .walk4 .ensures .next, X .walk5 .ensures .next, W .walk4 .kept .1 .1 .1 .1 .0, X .walk5 .kept .1 .1 .1 .1 .0, P .3 .space); fits = omega (arith, w, W .walk4 .ensures .next, X .walk5 .ensures .next, W .walk4 .kept .1 .1 .1 .1 .0, X .walk5 .kept .1 .1 .1 .1 .0, P .3 .fits) }
-
-walk-same-length-2 : (t : ℕ) → walk-lts.Need-same-length-2 (claims t) (walk-at t) walk.Post
-walk-same-length-2 t c = search needs
-
-walk-returns-2 : (t : ℕ) → walk-lts.Need-returns-2 (claims t) (walk-at t) walk.Post
-walk-returns-2 t c = let A = c .before .before in let W = A .before .before .before .before .before in let K = W .before .before in let S = K .before .before in let st = S .before .before .before .before .before .before in let T = st .args .t .now in let i = st .args .i .0 in let a = st .args .a .0 in let r = st .args .r .0 in let P = st .pre .1 in let e : kindAt T i ≡ 6 = K .match .keys1 in let N = is-not T (P .0) i (P .1) e in let w = weight-not (N .1) in let pos = weight-pos (formulaAt T (leftAt T i)) in arm-not a r (N .1) (W .walk .ensures) (A .append .ensures)
-
-walk-same-length-3 : (t : ℕ) → walk-lts.Need-same-length-3 (claims t) (walk-at t) walk.Post
-walk-same-length-3 t c = search needs
-
-walk-returns-3 : (t : ℕ) → walk-lts.Need-returns-3 (claims t) (walk-at t) walk.Post
-walk-returns-3 t c = let G = c .before .before in let A = G .before .before .before .before in let W = A .before .before .before .before .before in let K = W .before .before in let S = K .before .before in let st = S .before .before .before .before .before .before in let T = st .args .t .now in let i = st .args .i .0 in let a = st .args .a .0 in let r = st .args .r .0 in let P = st .pre .1 in let e : kindAt T i ≡ 8 = K .match .keys2 in let N = is-next T (P .0) i (P .1) e in let w = weight-next (N .1) in let pos = weight-pos (formulaAt T (leftAt T i)) in arm-next a r (N .1) (W .walk2 .ensures) (A .append2 .ensures) (G .gate .ensures)
-
-walk-same-length-4 : (t : ℕ) → walk-lts.Need-same-length-4 (claims t) (walk-at t) walk.Post
-walk-same-length-4 t c = search needs
-
-walk-returns-4 : (t : ℕ) → walk-lts.Need-returns-4 (claims t) (walk-at t) walk.Post
-walk-returns-4 t c = let A = c .before .before in let W = A .before .before .before .before .before in let K = W .before .before in let S = K .before .before in let st = S .before .before .before .before .before .before in let T = st .args .t .now in let i = st .args .i .0 in let a = st .args .a .0 in let r = st .args .r .0 in let P = st .pre .1 in let e : kindAt T i ≡ 10 = K .match .keys3 in let N = is-abort T (P .0) i (P .1) e in let w = weight-abort (N .2) in let pos = weight-pos (formulaAt T (leftAt T i)) in arm-abort a r (N .2) (W .literal2 .ensures) (A .walk3 .ensures)
-
-walk-same-length-5 : (t : ℕ) → walk-lts.Need-same-length-5 (claims t) (walk-at t) walk.Post
-walk-same-length-5 t c = search needs
-
-walk-returns-5 : (t : ℕ) → walk-lts.Need-returns-5 (claims t) (walk-at t) walk.Post
-walk-returns-5 t c = let A = c .before .before in let Q = A .before .before .before in let X = Q .before .before .before .before in let W = X .before .before .before .before in let K = W .before .before in let S = K .before .before in let st = S .before .before .before .before .before .before in let T = st .args .t .now in let i = st .args .i .0 in let a = st .args .a .0 in let r = st .args .r .0 in let P = st .pre .1 in let J = joined-node T (P .0) i (P .1) (omega (arith, K .before .if1 .left)) (K .match .rest .0 .0 .1) (K .match .rest .0 .1) (K .match .rest .1) in let w = J .weight in let pos = weight-pos (formulaAt T (leftAt T i)) in let pos2 = weight-pos (formulaAt T (rightAt T i)) in J .arm a r (Q .joining .ensures) (W .walk4 .ensures) (X .walk5 .ensures) (A .append3 .ensures)
+  met : {M : Type 1} → lts.Closed claims At Post M
+  met = lts.spec claims At Post
+      -- the node's numbers
+      (λ c. search needs)
+      (λ c. search needs)
+      (λ c. search needs)
+      (λ c. search needs)
+      (λ c. search needs)
+      (λ c. search needs)
+      (λ c. search needs)
+      (λ c. search needs)
+      (λ c. search needs)
+      (λ c. search needs)
+      -- weak, strong
+      (λ c κs.
+      let n = c .before .before in
+      let l = law n literal-node (omega arith) (omega arith) in
+      boolean n (l .operand) (room n (omega arith) (omega (arith, l .weight))))
+      (λ c. search needs)
+      (λ c.
+      let w = c .before .before in
+      let n = w .before .before .before in
+      law n literal-node (omega arith) (omega arith) .arm (accept n) (reject n) (w .literal .ensures))
+      -- not
+      (λ c κs.
+      let n = arm (c .before .before) in
+      let f = law n is-not (omega arith) in
+      formula n (f .0) (room n (omega arith) (omega (arith, weight-not (f .1)))))
+      (λ c. some-formula _ _ _ (under-not c .walk .ensures))
+      (λ c κs.
+      let w = under-not c in
+      let n = arm (w .before .before .before) in
+      room n (omega arith) (omega (arith, weight-not (law n is-not (omega arith) .1), w .walk .ensures .next)))
+      -- next
+      (λ c κs.
+      let n = arm (c .before .before) in
+      let f = law n is-next (omega arith) in
+      formula n (f .0) (room n (omega arith) (omega (arith, weight-next (f .1)))))
+      (λ c. some-formula _ _ _ (under-next c .walk2 .ensures))
+      (λ c κs.
+      let w = under-next c in
+      let n = arm (w .before .before .before) in
+      room n (omega arith) (omega (arith, weight-next (law n is-next (omega arith) .1), w .walk2 .ensures .next)))
+      (λ c κs.
+      let a = next-put c in
+      let w = under-next (a .before) in
+      let n = arm (w .before .before .before) in
+      room n (omega arith) (omega (arith, weight-next (law n is-next (omega arith) .1), w .walk2 .ensures .next, a .append2 .ensures .next)))
+      -- abort
+      (λ c κs.
+      let n = arm (c .before .before) in
+      let f = law n is-abort (omega arith) in
+      boolean n (f .1) (room n (omega arith) (omega (arith, weight-abort (f .2)))))
+      (λ c. omega (arith, condition c .literal2 .ensures .next))
+      (λ c κs.
+      let w = condition (c .before) in
+      let n = arm (w .before .before .before) in
+      let f = law n is-abort (omega arith) in
+      formula n (f .0) (room n (omega arith) (omega (arith, weight-abort (f .2), w .literal2 .ensures .next))))
+      -- and, until
+      (λ c κs.
+      let k = c .before in
+      let n = arm (k .before) in
+      let j = last-arm k in
+      formula n (j .left) (room n (omega arith) (omega (arith, j .weight))))
+      (λ c κs.
+      let w = left c in
+      let k = w .before .before in
+      let n = arm (k .before) in
+      let j = last-arm k in
+      formula n (j .right) (room n (omega arith) (omega (arith, j .weight, w .walk4 .ensures .next))))
+      (λ c κs. search needs)
+      (λ c. some-formula _ _ _ (left (right (c .before) .before) .walk4 .ensures))
+      (λ c. some-formula _ _ _ (right (c .before .before) .walk5 .ensures))
+      (λ c κs.
+      let v = right (c .before .before) in
+      let w = left (v .before) in
+      let k = w .before .before in
+      let n = arm (k .before) in
+      room n (omega arith) (omega (arith, last-arm k .weight, w .walk4 .ensures .next, v .walk5 .ensures .next)))
+      -- what not, next, abort, and and until store
+      (λ c. search needs)
+      (λ c.
+      let a = c .before .before in
+      let w = under-not (a .before) in
+      let n = arm (w .before .before .before) in
+      arm-not (accept n) (reject n) (law n is-not (omega arith) .1) (w .walk .ensures) (a .append .ensures))
+      (λ c. search needs)
+      (λ c.
+      let g = c .before .before in
+      let a = next-put (g .before) in
+      let w = under-next (a .before) in
+      let n = arm (w .before .before .before) in
+      arm-next (accept n) (reject n) (law n is-next (omega arith) .1) (w .walk2 .ensures) (a .append2 .ensures) (g .gate .ensures))
+      (λ c. search needs)
+      (λ c.
+      let v = c .before .before in
+      let w = condition (v .before .before) in
+      let n = arm (w .before .before .before) in
+      arm-abort (accept n) (reject n) (law n is-abort (omega arith) .2) (w .literal2 .ensures) (v .walk3 .ensures))
+      (λ c. search needs)
+      (λ c.
+      let a = c .before .before in
+      let q = a .before .before .before in
+      let v = right q in
+      let w = left (v .before) in
+      let k = w .before .before in
+      let n = arm (k .before) in
+      last-arm k .arm (accept n) (reject n) (q .joining .ensures) (w .walk4 .ensures) (v .walk5 .ensures) (a .append3 .ensures))
 
 pub +walk-spec : {M : Type 1} → statement M
-+walk-spec = close μ-walk λ t. walk-lts.spec (claims t) (walk-at t)
-    walk.Post
-    (walk-cast-at t)
-    (walk-mul-at t)
-    (walk-mul-kind t)
-    (walk-shared-slice-read-kind t)
-    (walk-add-t17 t)
-    (walk-mul-t20 t)
-    (walk-shared-slice-read-t19 t)
-    (walk-add-t17-2 t)
-    (walk-mul-t20-2 t)
-    (walk-shared-slice-read-t19-2 t)
-    (walk-literal-requires t)
-    (walk-same-length t)
-    (walk-returns t)
-    (walk-walk-requires t)
-    (walk-sub-append t)
-    (walk-append-requires t)
-    (walk-walk-requires-2 t)
-    (walk-sub-append-2 t)
-    (walk-append-requires-2 t)
-    (walk-gate-requires t)
-    (walk-literal-requires-2 t)
-    (walk-sub-t41 t)
-    (walk-walk-requires-3 t)
-    (walk-walk-requires-4 t)
-    (walk-walk-requires-5 t)
-    (walk-joining-requires t)
-    (walk-sub-append-3 t)
-    (walk-sub-append-4 t)
-    (walk-append-requires-3 t)
-    (walk-same-length-2 t)
-    (walk-returns-2 t)
-    (walk-same-length-3 t)
-    (walk-returns-3 t)
-    (walk-same-length-4 t)
-    (walk-returns-4 t)
-    (walk-same-length-5 t)
-    (walk-returns-5 t)
++walk-spec = close μ (λ own. met own)

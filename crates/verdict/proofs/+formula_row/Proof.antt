@@ -2,18 +2,21 @@
 use borrow.Author.Needs.{needs}
 use native.Mathlib.Omega.{arith}
 use mathlib.Core.Path.{_≡_}
-use Prim.Native.Nat.{ℕ, _<_}
-use Rattle.table.specs.Node.{kindAt, leftAt, rightAt}
+use mathlib.Core.Option.{none}
+use mathlib.Core.List.{List}
+use Prim.Native.Nat.{ℕ, _≤_, _<_}
+use Rattle.table.specs.Node.{count, kindAt, leftAt, rightAt}
 use Rattle.psl.specs.Parts.{booleanAt, formulaAt}
-use Rattle.psl.proofs.AcceptedLaw.{kind-known, is-not, is-and, is-next, is-until, is-abort}
+use Rattle.psl.specs.Check.{pslRefusal}
+use Rattle.psl.proofs.AcceptedLaw.{Boolean, Formula, kind-known, is-not, is-and, is-next, is-until, is-abort}
 use Rattle.logic.specs.Translation.{treeB, translated}
 use Rattle.rows.proofs.RowLaw.{tells-not, tells-and}
-use Rattle.verdict.proofs.ArmLaw.{as-formula, tells-literal}
+use Rattle.verdict.proofs.ArmLaw.{as-formula, literal-node}
 use borrow.Fn.Kinds.{In}
 use borrow.Fn.PlainCycle.{Measures, is, falls, and}
-use Rattle.verdict.proofs.formula_row.Reads as formula-row
-use Rattle.verdict.proofs.formula_row.Kinds as formula-row-kinds
-use Rattle.verdict.proofs.+formula_row.Lts-formula_row as formula-row-lts
+use Rattle.verdict.proofs.formula_row.Reads.{Pre, Post}
+use Rattle.verdict.proofs.formula_row.Kinds.{ps}
+use Rattle.verdict.proofs.+formula_row.Lts-formula_row as lts
 use Rattle.rows.proofs.gate.Reads as gate-reads
 use Rattle.rows.proofs.next_row.Reads as next-row-reads
 use Rattle.rows.proofs.until_row.Reads as until-row-reads
@@ -21,141 +24,148 @@ use Rattle.verdict.proofs.boolean_row.Reads as boolean-row-reads
 use Rattle.verdict.proofs.+formula_row.{statement}
 use Rattle.verdict.proofs.+formula_row.Tie.{close}
 
-abbrev μ-formula-row : Measures 2 formula-row-kinds.ps ℕ
-μ-formula-row κs a = a .1 .0 .0
+abbrev μ : Measures 2 ps ℕ
+μ κs a = a .1 .0 .0
 
-abbrev formula-row-at : ℕ → In 2 formula-row-kinds.ps
-formula-row-at t =
-    and 2 formula-row-kinds.ps (is 2 formula-row-kinds.ps μ-formula-row t) formula-row.Pre
+-- At a node of number `own`; calls are for nodes below it.
+module _ (own : ℕ) where
+  abbrev At : In 2 ps
+  At = and 2 ps (is 2 ps μ own) Pre
 
-abbrev formula-row-below : ℕ → In 2 formula-row-kinds.ps
-formula-row-below t =
-    and 2 formula-row-kinds.ps (falls 2 formula-row-kinds.ps _<_ μ-formula-row t) formula-row.Pre
+  abbrev Below : In 2 ps
+  Below = and 2 ps (falls 2 ps _<_ μ own) Pre
 
-abbrev claims : ℕ → formula-row-lts.Claims
-claims t = (boolean-row-reads.Asked, boolean-row-reads.Learnt, gate-reads.Asked, gate-reads.Learnt, formula-row-below t, formula-row.Post, next-row-reads.Asked, next-row-reads.Learnt, until-row-reads.Asked, until-row-reads.Learnt)
+  abbrev claims : lts.Claims
+  claims = (
+    boolean-row-reads.Asked,
+    boolean-row-reads.Learnt,
+    gate-reads.Asked,
+    gate-reads.Learnt,
+    Below,
+    Post,
+    next-row-reads.Asked,
+    next-row-reads.Learnt,
+    until-row-reads.Asked,
+    until-row-reads.Learnt,
+  )
 
-formula-row-cast-at : (t : ℕ) → formula-row-lts.Need-cast-at (claims t) (formula-row-at t) formula-row.Post
-formula-row-cast-at t c = search needs
+  -- ── Places ──
 
-formula-row-mul-at : (t : ℕ) → formula-row-lts.Need-mul-at (claims t) (formula-row-at t) formula-row.Post
-formula-row-mul-at t c = search needs
+  -- Where the node's three numbers are read.
+  abbrev Read : Type 0
+  Read = lts.After-shared-slice-known4 claims At Post
 
-formula-row-mul-kind : (t : ℕ) → formula-row-lts.Need-mul-kind (claims t) (formula-row-at t) formula-row.Post
-formula-row-mul-kind t c = search needs
+  abbrev start : Read → lts.Start claims At Post
+  start n = n .before .before .before .before .before
 
-formula-row-shared-slice-read-kind : (t : ℕ) → formula-row-lts.Need-shared-slice-read-kind (claims t) (formula-row-at t) formula-row.Post
-formula-row-shared-slice-read-kind t c = search needs
+  -- An arm of the match.
+  abbrev arm : lts.Else1 claims At Post → Read
+  arm e = e .before
 
-formula-row-add-t15 : (t : ℕ) → formula-row-lts.Need-add-t15 (claims t) (formula-row-at t) formula-row.Post
-formula-row-add-t15 t c = search needs
+  abbrev table : Read → List ℕ
+  table n = start n .args .t .now
 
-formula-row-mul-t18 : (t : ℕ) → formula-row-lts.Need-mul-t18 (claims t) (formula-row-at t) formula-row.Post
-formula-row-mul-t18 t c = search needs
+  abbrev node : Read → ℕ
+  node n = start n .args .i .0
 
-formula-row-shared-slice-read-t17 : (t : ℕ) → formula-row-lts.Need-shared-slice-read-t17 (claims t) (formula-row-at t) formula-row.Post
-formula-row-shared-slice-read-t17 t c = search needs
+  abbrev left : Read → ℕ
+  left n = leftAt (table n) (node n)
 
-formula-row-add-t15-2 : (t : ℕ) → formula-row-lts.Need-add-t15-2 (claims t) (formula-row-at t) formula-row.Post
-formula-row-add-t15-2 t c = search needs
+  abbrev right : Read → ℕ
+  right n = rightAt (table n) (node n)
 
-formula-row-mul-t18-2 : (t : ℕ) → formula-row-lts.Need-mul-t18-2 (claims t) (formula-row-at t) formula-row.Post
-formula-row-mul-t18-2 t c = search needs
+  -- A law of an accepted table's nodes, for this one.
+  abbrev law : {R : List ℕ → ℕ → Type 0} (n : Read)
+      → ((t : List ℕ) → pslRefusal t ≡ none → (i : ℕ) → i < count t → R t i) → R (table n) (node n)
+  law n l = l (table n) (start n .pre .1 .0) (node n) (start n .pre .1 .1)
 
-formula-row-shared-slice-read-t17-2 : (t : ℕ) → formula-row-lts.Need-shared-slice-read-t17-2 (claims t) (formula-row-at t) formula-row.Post
-formula-row-shared-slice-read-t17-2 t c = search needs
+  -- What a call for an operand asks, a Boolean or a formula.
+  boolean : (n : Read) {j : ℕ} → Boolean (table n) (node n) j
+      → (pslRefusal (table n) ≡ none) × (j < count (table n)) × (kindAt (table n) j < 4)
+  boolean n b = let P = start n .pre .1 in (P .0, omega (arith, b .0, P .1), b .1)
 
-formula-row-boolean-row-requires : (t : ℕ) → formula-row-lts.Need-boolean-row-requires (claims t) (formula-row-at t) formula-row.Post
-formula-row-boolean-row-requires t c κs = let th = c in let S = th .before in let st = S .before .before .before .before .before in let T = st .args .t .now in let i = st .args .i .0 in let P = st .pre .1 in let L = tells-literal T (P .0) i (P .1) (P .2) (th .if1 .taken) in (P .0, omega (arith, L .0 .0, P .1), L .0 .1)
+  formula : (n : Read) {j : ℕ} → Formula (table n) (node n) j
+      → (j < own) × ((pslRefusal (table n) ≡ none) × (j < count (table n)) × (4 ≤ kindAt (table n) j))
+  formula n f = let P = start n .pre in (omega (arith, f .0, P .0), (P .1 .0, omega (arith, f .0, P .1 .1), f .1))
 
-formula-row-gate-requires : (t : ℕ) → formula-row-lts.Need-gate-requires (claims t) (formula-row-at t) formula-row.Post
-formula-row-gate-requires t c κs = search needs
+  -- In the last arm the kind is that of an abort.
+  last-arm : (k : lts.At-match-rest claims At Post) → let n = arm (k .before) in kindAt (table n) (node n) ≡ 10
+  last-arm k = let n = arm (k .before) in omega (arith, law n kind-known)
 
-formula-row-returns : (t : ℕ) → formula-row-lts.Need-returns (claims t) (formula-row-at t) formula-row.Post
-formula-row-returns t c lead loop few p vs = let B = c .before in let th = B .before in let S = th .before in let st = S .before .before .before .before .before in let T = st .args .t .now in let i = st .args .i .0 in let P = st .pre .1 in let L = tells-literal T (P .0) i (P .1) (P .2) (th .if1 .taken) in L .1 lead loop (st .args .a) (st .args .r) _ (λ x y A R. c .gate .ensures lead loop x (treeB (booleanAt T (leftAt T i))) y few A (B .boolean-row .ensures lead loop few vs) R)
+  -- ── The needs, in the order of the code, the arms' answers last ──
 
-formula-row-formula-row-requires : (t : ℕ) → formula-row-lts.Need-formula-row-requires (claims t) (formula-row-at t) formula-row.Post
-formula-row-formula-row-requires t c κs = let K = c in let S = K .before .before in let st = S .before .before .before .before .before in let T = st .args .t .now in let i = st .args .i .0 in let P = st .pre .1 in let e : kindAt T i ≡ 6 = K .match .keys1 in let N = is-not T (P .0) i (P .1) e in (omega (arith, N .0 .0, st .pre .0), (P .0, omega (arith, N .0 .0, P .1), N .0 .1))
-
-formula-row-formula-row-requires-2 : (t : ℕ) → formula-row-lts.Need-formula-row-requires-2 (claims t) (formula-row-at t) formula-row.Post
-formula-row-formula-row-requires-2 t c κs = let K = c in let S = K .before .before in let st = S .before .before .before .before .before in let T = st .args .t .now in let i = st .args .i .0 in let P = st .pre .1 in let e : kindAt T i ≡ 7 = K .match .keys2 in let N = is-and T (P .0) i (P .1) e in (omega (arith, N .0 .0, st .pre .0), (P .0, omega (arith, N .0 .0, P .1), N .0 .1))
-
-formula-row-formula-row-requires-3 : (t : ℕ) → formula-row-lts.Need-formula-row-requires-3 (claims t) (formula-row-at t) formula-row.Post
-formula-row-formula-row-requires-3 t c κs = let K = c .before in let S = K .before .before in let st = S .before .before .before .before .before in let T = st .args .t .now in let i = st .args .i .0 in let P = st .pre .1 in let e : kindAt T i ≡ 7 = K .match .keys2 in let N = is-and T (P .0) i (P .1) e in (omega (arith, N .1 .0, st .pre .0), (P .0, omega (arith, N .1 .0, P .1), N .1 .1))
-
-formula-row-formula-row-requires-4 : (t : ℕ) → formula-row-lts.Need-formula-row-requires-4 (claims t) (formula-row-at t) formula-row.Post
-formula-row-formula-row-requires-4 t c κs = let K = c in let S = K .before .before in let st = S .before .before .before .before .before in let T = st .args .t .now in let i = st .args .i .0 in let P = st .pre .1 in let e : kindAt T i ≡ 8 = K .match .keys3 in let N = is-next T (P .0) i (P .1) e in (omega (arith, N .0 .0, st .pre .0), (P .0, omega (arith, N .0 .0, P .1), N .0 .1))
-
-formula-row-next-row-requires : (t : ℕ) → formula-row-lts.Need-next-row-requires (claims t) (formula-row-at t) formula-row.Post
-formula-row-next-row-requires t c κs = search needs
-
-formula-row-gate-requires-2 : (t : ℕ) → formula-row-lts.Need-gate-requires-2 (claims t) (formula-row-at t) formula-row.Post
-formula-row-gate-requires-2 t c κs = search needs
-
-formula-row-formula-row-requires-5 : (t : ℕ) → formula-row-lts.Need-formula-row-requires-5 (claims t) (formula-row-at t) formula-row.Post
-formula-row-formula-row-requires-5 t c κs = let K = c in let S = K .before .before in let st = S .before .before .before .before .before in let T = st .args .t .now in let i = st .args .i .0 in let P = st .pre .1 in let e : kindAt T i ≡ 9 = K .match .keys4 in let N = is-until T (P .0) i (P .1) e in (omega (arith, N .0 .0, st .pre .0), (P .0, omega (arith, N .0 .0, P .1), N .0 .1))
-
-formula-row-formula-row-requires-6 : (t : ℕ) → formula-row-lts.Need-formula-row-requires-6 (claims t) (formula-row-at t) formula-row.Post
-formula-row-formula-row-requires-6 t c κs = let K = c .before in let S = K .before .before in let st = S .before .before .before .before .before in let T = st .args .t .now in let i = st .args .i .0 in let P = st .pre .1 in let e : kindAt T i ≡ 9 = K .match .keys4 in let N = is-until T (P .0) i (P .1) e in (omega (arith, N .1 .0, st .pre .0), (P .0, omega (arith, N .1 .0, P .1), N .1 .1))
-
-formula-row-until-row-requires : (t : ℕ) → formula-row-lts.Need-until-row-requires (claims t) (formula-row-at t) formula-row.Post
-formula-row-until-row-requires t c κs = search needs
-
-formula-row-boolean-row-requires-2 : (t : ℕ) → formula-row-lts.Need-boolean-row-requires-2 (claims t) (formula-row-at t) formula-row.Post
-formula-row-boolean-row-requires-2 t c κs = let K = c in let S = K .before .before in let st = S .before .before .before .before .before in let T = st .args .t .now in let i = st .args .i .0 in let P = st .pre .1 in let e : kindAt T i ≡ 10 = omega (arith, K .before .if1 .left, K .match .rest .0 .0 .0 .1, K .match .rest .0 .0 .1, K .match .rest .0 .1, K .match .rest .1, kind-known T (P .0) i (P .1)) in let N = is-abort T (P .0) i (P .1) e in (P .0, omega (arith, N .1 .0, P .1), N .1 .1)
-
-formula-row-gate-requires-3 : (t : ℕ) → formula-row-lts.Need-gate-requires-3 (claims t) (formula-row-at t) formula-row.Post
-formula-row-gate-requires-3 t c κs = search needs
-
-formula-row-formula-row-requires-7 : (t : ℕ) → formula-row-lts.Need-formula-row-requires-7 (claims t) (formula-row-at t) formula-row.Post
-formula-row-formula-row-requires-7 t c κs = let K = c .before .before in let S = K .before .before in let st = S .before .before .before .before .before in let T = st .args .t .now in let i = st .args .i .0 in let P = st .pre .1 in let e : kindAt T i ≡ 10 = omega (arith, K .before .if1 .left, K .match .rest .0 .0 .0 .1, K .match .rest .0 .0 .1, K .match .rest .0 .1, K .match .rest .1, kind-known T (P .0) i (P .1)) in let N = is-abort T (P .0) i (P .1) e in (omega (arith, N .0 .0, st .pre .0), (P .0, omega (arith, N .0 .0, P .1), N .0 .1))
-
-formula-row-returns-2 : (t : ℕ) → formula-row-lts.Need-returns-2 (claims t) (formula-row-at t) formula-row.Post
-formula-row-returns-2 t c lead loop few p vs = let K = c .before in let S = K .before .before in let st = S .before .before .before .before .before in let T = st .args .t .now in let i = st .args .i .0 in let P = st .pre .1 in let e : kindAt T i ≡ 6 = K .match .keys1 in let N = is-not T (P .0) i (P .1) e in as-formula (N .1) (λ x y A R. tells-not few (c .formula-row .ok) (c .formula-row .ensures lead loop few p vs y x R A))
-
-formula-row-returns-3 : (t : ℕ) → formula-row-lts.Need-returns-3 (claims t) (formula-row-at t) formula-row.Post
-formula-row-returns-3 t c lead loop few p vs = let K = c .before .before in let S = K .before .before in let st = S .before .before .before .before .before in let T = st .args .t .now in let i = st .args .i .0 in let P = st .pre .1 in let e : kindAt T i ≡ 7 = K .match .keys2 in let N = is-and T (P .0) i (P .1) e in as-formula (N .2) (λ x y A R. tells-and few (c .before .formula-row2 .ensures lead loop few p vs x y A R) (c .formula-row3 .ensures lead loop few p vs x y A R))
-
-formula-row-returns-4 : (t : ℕ) → formula-row-lts.Need-returns-4 (claims t) (formula-row-at t) formula-row.Post
-formula-row-returns-4 t c lead loop few p vs = let Q = c .before in let F = Q .before in let K = F .before in let S = K .before .before in let st = S .before .before .before .before .before in let T = st .args .t .now in let i = st .args .i .0 in let P = st .pre .1 in let e : kindAt T i ≡ 8 = K .match .keys3 in let N = is-next T (P .0) i (P .1) e in as-formula (N .1) (λ x y A R. c .gate2 .ensures lead loop x _ y few A (Q .next-row .ensures lead loop (translated (formulaAt T (leftAt T i)) x y) few p (F .formula-row4 .ensures lead loop few p vs x y A R)) R)
-
-formula-row-returns-5 : (t : ℕ) → formula-row-lts.Need-returns-5 (claims t) (formula-row-at t) formula-row.Post
-formula-row-returns-5 t c lead loop few p vs = let G = c .before in let F = G .before in let K = F .before in let S = K .before .before in let st = S .before .before .before .before .before in let T = st .args .t .now in let i = st .args .i .0 in let P = st .pre .1 in let e : kindAt T i ≡ 9 = K .match .keys4 in let N = is-until T (P .0) i (P .1) e in as-formula (N .2) (λ x y A R. c .until-row .ensures lead loop (translated (formulaAt T (leftAt T i)) x y) (translated (formulaAt T (rightAt T i)) x y) few p (F .formula-row5 .ensures lead loop few p vs x y A R) (G .formula-row6 .ensures lead loop few p vs x y A R))
-
-formula-row-returns-6 : (t : ℕ) → formula-row-lts.Need-returns-6 (claims t) (formula-row-at t) formula-row.Post
-formula-row-returns-6 t c lead loop few p vs = let G = c .before in let B = G .before in let K = B .before in let S = K .before .before in let st = S .before .before .before .before .before in let T = st .args .t .now in let i = st .args .i .0 in let P = st .pre .1 in let e : kindAt T i ≡ 10 = omega (arith, K .before .if1 .left, K .match .rest .0 .0 .0 .1, K .match .rest .0 .0 .1, K .match .rest .0 .1, K .match .rest .1, kind-known T (P .0) i (P .1)) in let N = is-abort T (P .0) i (P .1) e in as-formula (N .2) (λ x y A R. c .formula-row7 .ensures lead loop few p vs _ y (G .gate3 .ensures lead loop x (treeB (booleanAt T (rightAt T i))) y few A (B .boolean-row2 .ensures lead loop few vs) R) R)
+  met : {M : Type 1} → lts.Closed claims At Post M
+  met = lts.spec claims At Post
+      -- the node's numbers
+      (λ c. search needs)
+      (λ c. search needs)
+      (λ c. search needs)
+      (λ c. search needs)
+      (λ c. search needs)
+      (λ c. search needs)
+      (λ c. search needs)
+      (λ c. search needs)
+      (λ c. search needs)
+      (λ c. search needs)
+      -- weak, strong
+      (λ c κs. let n = c .before in boolean n (law n literal-node (omega arith) (omega arith) .operand))
+      (λ c κs. search needs)
+      (λ c lead loop few p vs.
+      let b = c .before in
+      let n = b .before .before in
+      law n literal-node (omega arith) (omega arith) .tells lead loop (start n .args .a) (start n .args .r) _
+      (λ x y m. c .gate .ensures lead loop x _ y few (m .accept) (b .boolean-row .ensures lead loop few vs) (m .reject)))
+      -- not
+      (λ c κs. let n = arm (c .before) in formula n (law n is-not (omega arith) .0))
+      -- and
+      (λ c κs. let n = arm (c .before) in formula n (law n is-and (omega arith) .0))
+      (λ c κs. let n = arm (c .before .before) in formula n (law n is-and (omega arith) .1))
+      -- next
+      (λ c κs. let n = arm (c .before) in formula n (law n is-next (omega arith) .0))
+      (λ c κs. search needs)
+      (λ c κs. search needs)
+      -- until
+      (λ c κs. let n = arm (c .before) in formula n (law n is-until (omega arith) .0))
+      (λ c κs. let n = arm (c .before .before) in formula n (law n is-until (omega arith) .1))
+      (λ c κs. search needs)
+      -- abort
+      (λ c κs. let n = arm (c .before) in boolean n (law n is-abort (last-arm c) .1))
+      (λ c κs. search needs)
+      (λ c κs. let k = c .before .before in let n = arm (k .before) in formula n (law n is-abort (last-arm k) .0))
+      -- what not, and, next, until and abort tell
+      (λ c lead loop few p vs.
+      let n = arm (c .before .before) in
+      as-formula (law n is-not (omega arith) .1) (λ x y m.
+      tells-not few (c .formula-row .ok) (c .formula-row .ensures lead loop few p vs y x (record { accept = m .reject; reject = m .accept }))))
+      (λ c lead loop few p vs.
+      let f = c .before in
+      let n = arm (f .before .before) in
+      as-formula (law n is-and (omega arith) .2) (λ x y m.
+      tells-and few (f .formula-row2 .ensures lead loop few p vs x y m) (c .formula-row3 .ensures lead loop few p vs x y m)))
+      (λ c lead loop few p vs.
+      let next = c .before in
+      let f = next .before in
+      let n = arm (f .before .before) in
+      as-formula (law n is-next (omega arith) .1) (λ x y m.
+      let F = f .formula-row4 .ensures lead loop few p vs x y m in
+      let N = next .next-row .ensures lead loop (translated (formulaAt (table n) (left n)) x y) few p F in
+      c .gate2 .ensures lead loop x _ y few (m .accept) N (m .reject)))
+      (λ c lead loop few p vs.
+      let g = c .before in
+      let f = g .before in
+      let n = arm (f .before .before) in
+      as-formula (law n is-until (omega arith) .2) (λ x y m.
+      let F = f .formula-row5 .ensures lead loop few p vs x y m in
+      let G = g .formula-row6 .ensures lead loop few p vs x y m in
+      c .until-row .ensures lead loop (translated (formulaAt (table n) (left n)) x y) (translated (formulaAt (table n) (right n)) x y) few p F G))
+      (λ c lead loop few p vs.
+      let gate = c .before in
+      let b = gate .before in
+      let n = arm (b .before .before) in
+      as-formula (law n is-abort (last-arm (b .before)) .2) (λ x y m.
+      let B = b .boolean-row2 .ensures lead loop few vs in
+      let A = gate .gate3 .ensures lead loop x (treeB (booleanAt (table n) (right n))) y few (m .accept) B (m .reject) in
+      c .formula-row7 .ensures lead loop few p vs _ y (record { accept = A; reject = m .reject })))
 
 pub +formula-row-spec : {M : Type 1} → statement M
-+formula-row-spec = close μ-formula-row λ t. formula-row-lts.spec (claims t)
-    (formula-row-at t)
-    formula-row.Post
-    (formula-row-cast-at t)
-    (formula-row-mul-at t)
-    (formula-row-mul-kind t)
-    (formula-row-shared-slice-read-kind t)
-    (formula-row-add-t15 t)
-    (formula-row-mul-t18 t)
-    (formula-row-shared-slice-read-t17 t)
-    (formula-row-add-t15-2 t)
-    (formula-row-mul-t18-2 t)
-    (formula-row-shared-slice-read-t17-2 t)
-    (formula-row-boolean-row-requires t)
-    (formula-row-gate-requires t)
-    (formula-row-returns t)
-    (formula-row-formula-row-requires t)
-    (formula-row-formula-row-requires-2 t)
-    (formula-row-formula-row-requires-3 t)
-    (formula-row-formula-row-requires-4 t)
-    (formula-row-next-row-requires t)
-    (formula-row-gate-requires-2 t)
-    (formula-row-formula-row-requires-5 t)
-    (formula-row-formula-row-requires-6 t)
-    (formula-row-until-row-requires t)
-    (formula-row-boolean-row-requires-2 t)
-    (formula-row-gate-requires-3 t)
-    (formula-row-formula-row-requires-7 t)
-    (formula-row-returns-2 t)
-    (formula-row-returns-3 t)
-    (formula-row-returns-4 t)
-    (formula-row-returns-5 t)
-    (formula-row-returns-6 t)
++formula-row-spec = close μ (λ own. met own)

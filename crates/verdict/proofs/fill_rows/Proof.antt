@@ -6,20 +6,18 @@ use mathlib.Core.Logic.{⊎-elim}
 use Prim.Native.Nat.{ℕ, _+_, _-_, _≤_, _<_}
 use lib.ListN.{length, getD, set, length-set}
 use Rattle.logic.specs.Letter.{signals}
-use Rattle.table.specs.Node.{nodesOf, count, kindAt, leftAt, rightAt}
-use Rattle.table.proofs.NodeLaw.{length-nodes, node-at}
-use Rattle.ltl.proofs.AcceptedLaw.{some-node, is-var, both-below, operands-below}
+use Rattle.table.specs.Node.{count, kindAt, leftAt, rightAt}
+use Rattle.ltl.proofs.AcceptedLaw.{is-var, both-below, operands-below}
 use Rattle.logic.specs.Tree.{lvar}
-use Rattle.ltl.specs.Table.{treeOf}
 use Rattle.rows.specs.Rows.{Tells, TellsNode, Known}
 use Rattle.rows.proofs.SignalLaw.{known-none}
-use Rattle.rows.proofs.TableLaw.{Told, told-none, told-more, told-root, tells-signal}
+use Rattle.rows.proofs.TableLaw.{Told, told-none, told-more, told-all, tells-signal}
 use Rattle.verdict.proofs.fill_rows.Statement.{statement}
 use Rattle.verdict.proofs.fill_rows.Tie as tie
 
 abbrev Inv-loop : tie.InvT-loop
 Inv-loop t lead cycle told₀ n period vars₀ known₀ i₀ told vars known i =
-    (n ≡ count t) × (i ≤ n) × (length told ≡ length told₀) × (length vars ≡ signals) × Told lead cycle (nodesOf t) i told × Known lead cycle known vars
+    (n ≡ count t) × (i ≤ n) × (length told ≡ length told₀) × (length vars ≡ signals) × Told lead cycle t i told × Known lead cycle known vars
 
 abbrev μ-loop : tie.MeasureT-loop
 μ-loop t lead cycle told₀ n period vars₀ known₀ i₀ told vars known i = n - i
@@ -136,7 +134,7 @@ one-more : (u : tie.After-shared-slice-known6 Inv-loop μ-loop) (v : ℕ)
     let i = L .loop .i in
     let W = L .loop .told in
     TellsNode (a .lead .now) (a .cycle .now) (kindAt t i) (leftAt t i) (getD W (leftAt t i) 0) (getD W (rightAt t i) 0) v
-    → Told (a .lead .now) (a .cycle .now) (nodesOf t) (i + 1) (set W i v)
+    → Told (a .lead .now) (a .cycle .now) t (i + 1) (set W i v)
 one-more u v N =
     let L = turn u in
     let t = start L .args .t .now in
@@ -144,7 +142,7 @@ one-more u v N =
     let I = L .loop .inv in
     let P = start L .pre in
     let h = inside u in
-    told-more i (kindAt t i) (leftAt t i) (rightAt t i) v (omega (arith, length-nodes t, h)) (omega (arith, h, I .2, P .2)) (node-at t i (omega arith)) (both-below t (P .0) i h) N (I .4)
+    told-more i v h (omega (arith, h, I .2, P .2)) (both-below t (P .0) i h) N (I .4)
 
 -- After a turn node i has its row, its signal's or its operands'.
 filled : (c : tie.Joined1 Inv-loop μ-loop)
@@ -152,7 +150,7 @@ filled : (c : tie.Joined1 Inv-loop μ-loop)
     let a = start L .args in
     (length (c .if1 .told) ≡ length (a .told .now))
     × (length (c .if1 .vars) ≡ signals)
-    × Told (a .lead .now) (a .cycle .now) (nodesOf (a .t .now)) (L .loop .i + 1) (c .if1 .told)
+    × Told (a .lead .now) (a .cycle .now) (a .t .now) (L .loop .i + 1) (c .if1 .told)
     × Known (a .lead .now) (a .cycle .now) (c .if1 .known) (c .if1 .vars)
 filled c =
     let u = c .before in
@@ -185,16 +183,7 @@ same-length : tie.Need-same-length Inv-loop μ-loop
 same-length c = search needs
 
 returns : tie.Need-returns Inv-loop μ-loop
-returns c =
-    let L = c .before in
-    let st = start L in
-    let t = st .args .t .now in
-    let I = L .loop .inv in
-    let W = L .loop .told in
-    let n = length-nodes t in
-    let e : L .loop .i ≡ length (nodesOf t) = omega (arith, n, I .0, I .1) in
-    let R = told-root t W (omega (arith, n, some-node t (st .pre .0))) (subst (λ (m : ℕ). Told (st .args .lead .now) (st .args .cycle .now) (nodesOf t) m W) e (I .4)) in
-    subst (λ (m : ℕ). Tells (st .args .lead .now) (st .args .cycle .now) (getD W (m - 1) 0) (treeOf t)) n R
+returns c = let I = c .before .loop .inv in told-all (omega (arith, I .0, I .1)) (I .4)
 
 pub fill-rows-spec : {M : Type 1} → statement M
 fill-rows-spec =

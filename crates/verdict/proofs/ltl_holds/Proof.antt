@@ -4,6 +4,7 @@ use native.Mathlib.Omega.{arith}
 use mathlib.Core.Path.{refl}
 use Rattle.ltl.specs.Table.{treeOf}
 use Rattle.ltl.proofs.AcceptedLaw.{some-node, most-nodes}
+use Rattle.rows.proofs.TableLaw.{rows-root}
 use Rattle.verdict.proofs.ltl_holds.Statement.{statement}
 use Rattle.verdict.proofs.ltl_holds.Tie as tie
 
@@ -32,7 +33,9 @@ returns : tie.Need-returns
 returns c =
     let F = c .before .before in
     let st = F .before .before .before .before .before .before in
-    c .at-first .ensures (st .args .lead .now) (st .args .cycle .now) (treeOf (st .args .t .now)) (st .pre .1) refl (F .fill-rows .ensures)
+    let t = st .args .t .now in
+    let row = rows-root t _ (some-node t (st .pre .0)) (F .fill-rows .ensures) in
+    c .at-first .ensures (st .args .lead .now) (st .args .cycle .now) (treeOf t) (st .pre .1) refl row
 
 slice-aggregate-fill-rows-2 : tie.Need-slice-aggregate-fill-rows-2
 slice-aggregate-fill-rows-2 c = search needs
@@ -55,7 +58,9 @@ returns-2 : tie.Need-returns-2
 returns-2 c =
     let F = c .before .before in
     let st = F .before .before .before .before .before .before in
-    c .at-first2 .ensures (st .args .lead .now) (st .args .cycle .now) (treeOf (st .args .t .now)) (st .pre .1) refl (F .fill-rows2 .ensures)
+    let t = st .args .t .now in
+    let row = rows-root t _ (some-node t (st .pre .0)) (F .fill-rows2 .ensures) in
+    c .at-first2 .ensures (st .args .lead .now) (st .args .cycle .now) (treeOf t) (st .pre .1) refl row
 
 pub ltl-holds-spec : {M : Type 1} → statement M
 ltl-holds-spec =

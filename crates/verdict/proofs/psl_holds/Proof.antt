@@ -1,72 +1,75 @@
 -- `verdict::psl_holds` meets its contract: on the empty trace by the formula's shape, else by the translation's row at moment 0.
 use borrow.Author.Needs.{needs}
 use native.Mathlib.Omega.{arith}
-use mathlib.Core.Path.{refl}
-use Prim.Native.Nat.{_-_}
-use Rattle.table.specs.Node.{count}
+use mathlib.Core.Path.{_≡_, refl}
+use mathlib.Core.Option.{none}
+use mathlib.Core.List.{List}
+use Prim.Native.Nat.{ℕ, _-_, _≤_, _<_}
+use Rattle.table.specs.Node.{count, kindAt}
 use Rattle.psl.specs.Parts.{formulaAt}
+use Rattle.psl.specs.Check.{pslRefusal}
 use Rattle.psl.proofs.AcceptedLaw.{some-node, most-nodes, root-formula}
-use Rattle.logic.specs.Translation.{translated, falsum}
+use Rattle.logic.specs.Translation.{translated}
 use Rattle.rows.specs.Rows.{Few}
 use Rattle.rows.proofs.RowLaw.{tells-false}
 use Rattle.verdict.proofs.HoldsLaw.{holds-none, holds-some}
 use Rattle.verdict.proofs.psl_holds.Statement.{statement}
 use Rattle.verdict.proofs.psl_holds.Tie as tie
 
-sub-t9 : tie.Need-sub-t9
-sub-t9 c = let st = c .before .before .before in omega (arith, some-node (st .args .t .now) (st .pre .0))
+-- Where the lengths of the three lists are known.
+abbrev Known : Type 0
+Known = tie.After-shared-slice-known3
 
-cast-t10 : tie.Need-cast-t10
-cast-t10 c = let st = c .before .before .before in omega (arith, some-node (st .args .t .now) (st .pre .0), most-nodes (st .args .t .now) (st .pre .0))
+abbrev start : Known → tie.Start
+start n = n .before .before .before
 
-add-letters : tie.Need-add-letters
-add-letters c = search needs
+abbrev table : Known → List ℕ
+table n = start n .args .t .now
 
-on-empty-requires : tie.Need-on-empty-requires
-on-empty-requires c κs = let st = c .before .before .before .before in let t = st .args .t .now in (st .pre .0, omega (arith, some-node t (st .pre .0)), root-formula t (st .pre .0))
+-- Where the signals' rows are made, on a trace with letters.
+abbrev signals : tie.After-vars3 → tie.After-signal-rows
+signals c = c .before .before
 
-returns : tie.Need-returns
-returns c = let th = c .before in let st = th .before .before .before .before in holds-none (st .args .t .now) (st .args .lead .now) (st .args .cycle .now) (th .if1 .taken) (c .on-empty .ensures)
+abbrev lettered : tie.After-signal-rows → Known
+lettered s = s .before .before .before
 
-slice-aggregate-signal-rows : tie.Need-slice-aggregate-signal-rows
-slice-aggregate-signal-rows c = search needs
+nodes : (n : Known) → (0 < count (table n)) × (count (table n) ≤ 1024)
+nodes n = let fine = start n .pre .0 in (some-node (table n) fine, most-nodes (table n) fine)
 
-signal-rows-requires : tie.Need-signal-rows-requires
-signal-rows-requires c κs = search needs
+-- What is asked for the root, which is a formula.
+root : (n : Known) → let t = table n in (pslRefusal t ≡ none) × (count t - 1 < count t) × (4 ≤ kindAt t (count t - 1))
+root n = let fine = start n .pre .0 in (fine, omega (arith, nodes n .0), root-formula (table n) fine)
 
-formula-row-requires : tie.Need-formula-row-requires
-formula-row-requires c κs =
-    let st = c .before .before .before .before .before .before .before .before in
-    let t = st .args .t .now in
-    (st .pre .0, omega (arith, some-node t (st .pre .0)), root-formula t (st .pre .0))
-
-at-first-requires : tie.Need-at-first-requires
-at-first-requires c κs = search needs
-
-returns-2 : tie.Need-returns-2
-returns-2 c =
-    let F = c .before in
-    let s = F .before .before .before in
-    let el = s .before .before in
-    let st = el .before .before .before .before in
-    let t = st .args .t .now in
-    let l = st .args .lead .now in
-    let m = st .args .cycle .now in
-    let few : Few l m = record { some = omega (arith, el .if1 .left); most = omega (arith, st .pre .1) } in
-    holds-some t l m (c .at-first .result) few
-    (c .at-first .ensures l m (translated (formulaAt t (count t - 1)) falsum falsum) few refl (F .formula-row .ensures l m few refl (s .signal-rows .ensures) falsum falsum (tells-false few) (tells-false few)))
+few : (e : tie.Else1) → let a = start (e .before) .args in Few (a .lead .now) (a .cycle .now)
+few e = record { some = omega (arith, e .if1 .left); most = start (e .before) .pre .1 }
 
 pub psl-holds-spec : {M : Type 1} → statement M
 psl-holds-spec =
-    tie.close
-    (tie.spec
-    sub-t9
-    cast-t10
-    add-letters
-    on-empty-requires
-    returns
-    slice-aggregate-signal-rows
-    signal-rows-requires
-    formula-row-requires
-    at-first-requires
-    returns-2)
+    tie.close (tie.spec
+    -- the root's number and the letters
+    (λ c. omega (arith, nodes c .0))
+    (λ c. omega (arith, nodes c .1))
+    (λ c. search needs)
+    -- no letter
+    (λ c κs. root (c .before))
+    (λ c.
+    let n = c .before .before in
+    let a = start n .args in
+    holds-none (table n) (a .lead .now) (a .cycle .now) (c .before .if1 .taken) (c .on-empty .ensures))
+    -- the formula's row, with nothing accepted or rejected yet
+    (λ c. search needs)
+    (λ c κs. search needs)
+    (λ c κs. root (lettered (signals c)))
+    (λ c κs. search needs)
+    (λ c.
+    let f = c .before in
+    let s = signals (f .before) in
+    let n = lettered s in
+    let t = table n in
+    let l = start n .args .lead .now in
+    let m = start n .args .cycle .now in
+    let w = few (s .before .before) in
+    let row = f .formula-row .ensures l m w refl (s .signal-rows .ensures) nothing nothing
+    (record { accept = tells-false w; reject = tells-false w }) in
+    holds-some t l m (c .at-first .result) w
+    (c .at-first .ensures l m (translated (formulaAt t (count t - 1)) nothing nothing) w refl row)))
