@@ -2,6 +2,7 @@ pub mod OrderLaw
 pub mod KnownLaw
 pub mod EmptyLaw
 pub mod EndLaw
+pub mod SumLaw
 pub mod CheckLaw
 pub mod PartLaw
 pub mod AcceptedLaw
