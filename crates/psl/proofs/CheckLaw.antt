@@ -125,10 +125,15 @@ nothing-more c i j h =
       | no d ↦ getD-set-other c i j (getD c i 0 + 0) 0 (λ q. d (sym q)) ∙ omega arith
     ]
 
-pub counted : (u : Use) (n i : ℕ) (c : List ℕ) → let at = operandOr u n i in at < length c → Counted u n c (set c at (getD c at 0 + one (coded u .operand)))
-counted unused n i c h = record { same = length-set c i (getD c i 0 + 0); more = λ j l. nothing-more c i j h }
-counted signal n i c h = record { same = length-set c i (getD c i 0 + 0); more = λ j l. nothing-more c i j h }
-counted (operand b) n i c h = counted-operand b n c h
+counted-coded : (u : Use) (n i : ℕ) (c : List ℕ) → let at = operandOr u n i in at < length c → Counted u n c (set c at (getD c at 0 + one (coded u .operand)))
+counted-coded unused n i c h = record { same = length-set c i (getD c i 0 + 0); more = λ j l. nothing-more c i j h }
+counted-coded signal n i c h = record { same = length-set c i (getD c i 0 + 0); more = λ j l. nothing-more c i j h }
+counted-coded (operand b) n i c h = counted-operand b n c h
+
+pub counted : (p : Place) (u : Use) → p ≡ coded u → (n i : ℕ) (c : List ℕ) → let at = operandOr u n i in at < length c → Counted u n c (set c at (getD c at 0 + one (p .operand)))
+counted p u e n i c h =
+    let at = operandOr u n i in
+    subst (λ (q : Place). Counted u n c (set c at (getD c at 0 + one (q .operand)))) (sym e) (counted-coded u n i c h)
 
 own-or-below : (u : Use) (n i : ℕ) → n < bound u i → operandOr u n i ≤ i
 own-or-below unused n i h = omega arith

@@ -49,6 +49,9 @@ module _ (R : Rules) where
     fits-same g (λ d. ap isBool (e r (omega (arith, fit-below g d)))),
   )
 
+  pub pass-none : PassFrom 0 []
+  pass-none = record { at = λ i a h. absurd (omega arith) }
+
   pub pass-more : {a : ℕ} {ns : List Node} (x : Node) → PassFrom a ns → Passes ns (length ns) x → PassFrom a (ns ▸ x)
   pass-more {a} {ns} x f p = record { at = at }
     where

@@ -1,10 +1,9 @@
 -- `count_place` adds a use of an operand, and nothing else.
 use borrow.Author.Needs.{needs}
 use Prim.Native.Nat.{ℕ, _<_}
-use mathlib.Core.Path.{ap, subst}
+use mathlib.Core.Path.{subst}
 use native.Mathlib.Omega.{arith}
 use lib.ListN.{length, getD}
-use Rattle.table.specs.declared.Place.{Place}
 use Rattle.psl.proofs.CheckLaw.{one-low, counted}
 use Rattle.psl.proofs.count_place.Statement.{statement}
 use Rattle.psl.proofs.count_place.Tie as tie
@@ -45,7 +44,7 @@ returns c u e =
     let st = at .before .before in
     let a = st .args in
     let z = at .counted-at .ensures u e in
-    rw (z, c .before .one .ensures, ap (λ (p : Place). p .operand) e) (counted u (a .n) (a .i) (a .c .now) (subst (λ (m : ℕ). m < length (a .c .now)) z (inside at)))
+    rw (z, c .before .one .ensures) (counted (a .p) u e (a .n) (a .i) (a .c .now) (subst (λ (m : ℕ). m < length (a .c .now)) z (inside at)))
 
 pub count-place-spec : {M : Type 1} → statement M
 count-place-spec =
