@@ -23,10 +23,10 @@ module _ (t : List ℕ) (fine : ltlRefusal t ≡ none) where
     is-var e = left-fits ltlRules t fine i inside 1 e .low
 
     abbrev Left : ℕ → Type 0
-    Left k = Fits (shapeOf ltlRules k .0) (leftAt t i) i (isBoolean ltlRules t (leftAt t i))
+    Left k = Fits ltlRules (shapeOf ltlRules k .0) (leftAt t i) i (isBoolean ltlRules t (leftAt t i))
 
     abbrev Right : ℕ → Type 0
-    Right k = Fits (shapeOf ltlRules k .1) (rightAt t i) i (isBoolean ltlRules t (rightAt t i))
+    Right k = Fits ltlRules (shapeOf ltlRules k .1) (rightAt t i) i (isBoolean ltlRules t (rightAt t i))
 
     -- From kind 2 on both numbers are below the node's own: an unused one is 0.
     abbrev Below : ℕ → Type 0

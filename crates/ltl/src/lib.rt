@@ -11,11 +11,11 @@ use table::UNUSED;
 use trace::Refusal;
 ghost use Prim.Native.Nat.{_<_};
 ghost use Rattle.table.specs.Node.{count};
-ghost use Rattle.table.specs.Check.{FirstRefused};
+ghost use Rattle.table.specs.Inner.First.{FirstRefused};
 ghost use Rattle.ltl.specs.Check.{ltlRules};
 ghost use Rattle.ltl.specs.Answer.{LtlChecks};
 
-// What stands left and right, kind by kind. All are formulas, so no operand is of the wrong sort, and that refusal has no number.
+// What stands left and right, kind by kind. All are formulas, so no operand is of the wrong sort, and that refusal has no number: 0.
 pub const LTL: Rules = Rules {
     shapes: [
         Shape(UNUSED, UNUSED), // 0 true

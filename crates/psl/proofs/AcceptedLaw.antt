@@ -1,6 +1,7 @@
 -- What an accepted PSL table gives to those that walk over it: its size, its root, and its nodes kind by kind, with the sorts of their operands.
 use Prim.Native.Nat.{ℕ, _+_, _*_, _-_, _≤_, _<_}
-use mathlib.Core.Path.{_≡_, refl, ap}
+use mathlib.Core.Path.{_≡_, ap}
+use mathlib.Core.Bool.{true, false}
 use mathlib.Core.Option.{none}
 use mathlib.Core.List.{List}
 use native.Mathlib.Omega.{arith}
@@ -9,7 +10,7 @@ use borrow.Author.Tests.{ltb-true, ltb-false}
 use Rattle.logic.specs.Letter.{signals}
 use Rattle.table.specs.Node.{count, kindAt, leftAt, rightAt}
 use Rattle.table.specs.Check.{boolean, formula, isBoolean, tableRefusal}
-use Rattle.table.proofs.CheckLaw.{Fits, fit-sort, fit-below, table-sized, kind-in, left-fits, right-fits}
+use Rattle.table.proofs.CheckLaw.{Fits, sort-is, table-sized, kind-in, left-fits, right-fits}
 use Rattle.logic.specs.Formula.{btrue, var, bnot, band, weak, strong, fnot, fand, next, until, abort}
 use Rattle.psl.specs.Table.{asBoolean, asFormula}
 use Rattle.psl.specs.Parts.{booleanAt, formulaAt}
@@ -47,11 +48,11 @@ module _ (t : List ℕ) (fine : pslRefusal t ≡ none) where
     pub kind-known : kindAt t i < 11
     kind-known = kind-in pslRules t u i inside
 
-    as-boolean : (n : ℕ) → Fits boolean n i (isBoolean pslRules t n) → Boolean t i n
-    as-boolean n f = (fit-below f refl, ltb-true (kindAt t n) 4 (fit-sort f refl))
+    as-boolean : (n : ℕ) → Fits pslRules boolean n i (isBoolean pslRules t n) → Boolean t i n
+    as-boolean n f = (f .low, ltb-true (kindAt t n) 4 (sort-is true (isBoolean pslRules t n) (f .sort)))
 
-    as-formula : (n : ℕ) → Fits formula n i (isBoolean pslRules t n) → Formula t i n
-    as-formula n f = (fit-below f refl, ltb-false (kindAt t n) 4 (fit-sort f refl))
+    as-formula : (n : ℕ) → Fits pslRules formula n i (isBoolean pslRules t n) → Formula t i n
+    as-formula n f = (f .low, ltb-false (kindAt t n) 4 (sort-is false (isBoolean pslRules t n) (f .sort)))
 
     -- ── Booleans ──
 

@@ -1,26 +1,79 @@
 -- Laws of the PSL check: the counts of uses, which refusal decides, and what an accepted table is like.
 use mathlib.Core.Path.{_≡_, refl, sym, ap, _∙_, subst}
-use mathlib.Core.Bool.{Bool, true, false, not, cond, _&&_}
+use mathlib.Core.Bool.{Bool, true, false, not, _&&_}
 use mathlib.Core.Option.{Option, none, some}
 use mathlib.Core.List.{List}
 use Prim.Native.Nat.{ℕ, zero, suc, _+_, _*_, _-_, _≤_, _<_}
 use native.Mathlib.Omega.{arith}
 use native.Mathlib.Numerals.{add-one}
 use native.Mathlib.Decide.{ℕ-discrete}
-use lib.Dec.{eqb}
+use lib.Dec.{eqb, ltb}
 use lib.ListN.{length, getD, set, length-set, replicate, length-replicate, getD-replicate}
 use lib.Seq.{getD-set-same, getD-set-other}
-use lib.Bits.{bitAnd, bitOr, or-zero-l, or-zero-r}
-use borrow.Author.Tests.{eq-eqb, ne-eqb, eqb-true, not-true}
+use borrow.Author.Tests.{eq-eqb, ne-eqb, eqb-true, ltb-true, not-true}
 use Rattle.trace.specs.declared.Refusal.{Refusal}
 use Rattle.table.specs.declared.Place.{Place}
 use Rattle.table.specs.Answer.{refused}
 use Rattle.table.specs.Node.{count, kindAt, leftAt, rightAt}
-use Rattle.table.specs.Check.{shapeOf, masked, lengthFits, isBoolean, refusalAt, lowest, tableRefusal, total}
-use Rattle.table.proofs.KindLaw.{every}
-use Rattle.table.proofs.CheckLaw.{WellMade, unless-none, or-none, named-is, other-is, left-masked, right-masked, Fits, Sound, known-kind, node-none, node-sound, table-sound, sized, lowest-zero, lowest-next, lowest-some, none-below}
-use Rattle.psl.specs.Check.{pslRules, one, names, namesAt, uses, useRefusal, rootRefusal, treeRefusal, pslRefusal}
-use Rattle.psl.specs.Counts.{Counted, Tallied}
+use Rattle.table.specs.Check.{Use, unused, signal, operand, shapeOf, sortFits, lengthFits, isBoolean, refusalAt, lowest, tableRefusal}
+use Rattle.table.specs.Inner.Place.{coded, codedRules, operandOr, bound, lowFits, allFit, Codes}
+use Rattle.table.proofs.CheckLaw.{both-true, unless-none, or-none, Fits, Sound, node-none, node-sound, table-sound, sized, lowest-zero, lowest-next, lowest-some, none-below}
+use Rattle.psl.specs.Check.{pslRules, one, names, namesAt, uses, useRefusal, rootRefusal, treeRefusal, pslRefusal, total}
+use Rattle.psl.specs.Counts.{Counted, Room, Tallied}
+
+-- The code's rules are those of PSL tables.
+pub rules-coded : Codes (codedRules pslRules) pslRules
+rules-coded = record { is = refl; room = omega arith; numbered = λ z. omega arith }
+
+-- ── Both places of a node, as the loop tests them ──
+
+one-fails : (a b c d : Bool) → a && b ≡ false → false ≡ (c && a) && (d && b)
+one-fails a b false d e = refl
+one-fails false b true d e = refl
+one-fails true b true false e = refl
+one-fails true b true true e = sym e
+
+both-pass : (c d : Bool) → c && d ≡ (c && true) && (d && true)
+both-pass true true = refl
+both-pass true false = refl
+both-pass false d = refl
+
+named-in : (u : Use) (n i c : ℕ) → n < bound u i → i < c → operandOr u n 0 < c
+named-in unused n i c h g = omega arith
+named-in signal n i c h g = omega arith
+named-in (operand b) n i c h g = omega arith
+
+-- Where there is no operand, any kind will do.
+pub named-sort : (u : Use) (t : List ℕ) (n m : ℕ) → sortFits u (ltb (kindAt t (operandOr u n 0)) m) ≡ sortFits u (ltb (kindAt t n) m)
+named-sort unused t n m = refl
+named-sort signal t n m = refl
+named-sort (operand b) t n m = refl
+
+abbrev pub BothLow : Use × Use → ℕ → ℕ → ℕ → Bool
+BothLow u i l r = lowFits (u .0) l i && lowFits (u .1) r i
+
+-- What the places l and r name in t has its kind; those below m are Booleans.
+module _ (u : Use × Use) (i l r : ℕ) (t : List ℕ) (m : ℕ) where
+  abbrev BothFit : Bool
+  BothFit = allFit pslRules (u .0) l i (ltb (kindAt t l) m) && allFit pslRules (u .1) r i (ltb (kindAt t r) m)
+
+  pub not-low : BothLow u i l r ≡ false → false ≡ BothFit
+  not-low e = one-fails (lowFits (u .0) l i) (lowFits (u .1) r i) (sortFits (u .0) (ltb (kindAt t l) m)) (sortFits (u .1) (ltb (kindAt t r) m)) e
+
+  module _ (e : BothLow u i l r ≡ true) where
+    lows : (lowFits (u .0) l i ≡ true) × (lowFits (u .1) r i ≡ true)
+    lows = both-true (lowFits (u .0) l i) (lowFits (u .1) r i) e
+
+    -- Each operand is a node of the table, as its user is.
+    module _ (h : i < count t) where
+      pub left-in : operandOr (u .0) l 0 < count t
+      left-in = named-in (u .0) l i (count t) (ltb-true _ _ (lows .0)) h
+
+      pub right-in : operandOr (u .1) r 0 < count t
+      right-in = named-in (u .1) r i (count t) (ltb-true _ _ (lows .1)) h
+
+    pub low-sorts : sortFits (u .0) (ltb (kindAt t l) m) && sortFits (u .1) (ltb (kindAt t r) m) ≡ BothFit
+    low-sorts = rw (lows .0, lows .1) (both-pass (sortFits (u .0) (ltb (kindAt t l) m)) (sortFits (u .1) (ltb (kindAt t r) m)))
 
 -- ── Counts ──
 
@@ -28,79 +81,64 @@ pub one-low : (b : Bool) → one b ≤ 1
 one-low true = omega arith
 one-low false = omega arith
 
-pub names-same : (o : Bool) (n : ℕ) → one (o && eqb n n) ≡ one o
-names-same true n = ap one (eq-eqb n n refl)
-names-same false n = refl
+pub names-same : (n : ℕ) → one (eqb n n) ≡ 1
+names-same n = ap one (eq-eqb n n refl)
 
-pub names-other : (o : Bool) (n j : ℕ) → (n ≡ j → ⊥) → one (o && eqb n j) ≡ 0
-names-other true n j h = ap one (ne-eqb n j h)
-names-other false n j h = refl
+pub names-other : (n j : ℕ) → (n ≡ j → ⊥) → one (eqb n j) ≡ 0
+names-other n j h = ap one (ne-eqb n j h)
+
+names-once : (u : Use) (n j : ℕ) → names u n j ≤ 1
+names-once unused n j = omega arith
+names-once signal n j = omega arith
+names-once (operand b) n j = one-low (eqb n j)
 
 names-low : (t : List ℕ) (j i : ℕ) → namesAt t j i ≤ 2
 unfolding namesAt
 names-low t j i =
     let h = shapeOf pslRules (kindAt t i) in
-    omega (arith, one-low (h .0 .operand && eqb (leftAt t i) j), one-low (h .1 .operand && eqb (rightAt t i) j))
+    omega (arith, names-once (h .0) (leftAt t i) j, names-once (h .1) (rightAt t i) j)
 
 uses-low : (t : List ℕ) (j i : ℕ) → total (namesAt t j) i ≤ 2 * i
 unfolding total
 uses-low t j zero = omega arith
 uses-low t j (suc i) = omega (arith, uses-low t j i, names-low t j i)
 
-pub rules-made : WellMade pslRules
-rules-made =
+-- A place that holds n is counted: an operand gets one more.
+counted-operand : (b : Bool) (n : ℕ) (c : List ℕ) → n < length c → Counted (operand b) n c (set c n (getD c n 0 + 1))
+counted-operand b n c h =
     record {
-      kinds = omega arith;
-      masks = every (λ j. masked (shapeOf pslRules j .0) && masked (shapeOf pslRules j .1)) 11 refl;
+      same = length-set c n (getD c n 0 + 1);
+      more = λ j l. elim (ℕ-discrete n j) [
+        | yes d ↦
+            subst (λ (m : ℕ). getD (set c n (getD c n 0 + 1)) m 0 ≡ getD c m 0 + one (eqb n m)) d
+            (getD-set-same c n (getD c n 0 + 1) 0 h ∙ omega (arith, names-same n))
+        | no d ↦ getD-set-other c n j (getD c n 0 + 1) 0 (λ q. d (sym q)) ∙ omega (arith, names-other n j d)
+      ];
     }
 
--- Where the place p of node i is counted, if it holds n.
-pub place-at : (p : Place) (n i : ℕ) → masked p ≡ true → n < 65536 → i < 65536 → bitOr (bitAnd n (p .mask)) (bitAnd i (65535 - p .mask)) ≡ cond (p .operand) n i
-place-at p n i e h g = rw (named-is p e n h, other-is p e i g) (go (p .operand))
-  where
-    go : (o : Bool) → bitOr (cond o n 0) (cond o 0 i) ≡ cond o n i
-    go true = or-zero-r n
-    go false = or-zero-l i
+-- Where there is none, node i gets nothing more.
+nothing-more : (c : List ℕ) (i j : ℕ) → i < length c → getD (set c i (getD c i 0 + 0)) j 0 ≡ getD c j 0 + 0
+nothing-more c i j h =
+    elim (ℕ-discrete i j) [
+      | yes d ↦
+          subst (λ (m : ℕ). getD (set c i (getD c i 0 + 0)) m 0 ≡ getD c m 0 + 0) d (getD-set-same c i (getD c i 0 + 0) 0 h)
+      | no d ↦ getD-set-other c i j (getD c i 0 + 0) 0 (λ q. d (sym q)) ∙ omega arith
+    ]
 
--- A place that holds n is counted.
-module _ (p : Place) (n : ℕ) (c : List ℕ) where
-  counted-operand : p .operand ≡ true → n < length c → Counted p n c (set c n (getD c n 0 + 1))
-  counted-operand e h =
-      record {
-        same = length-set c n (getD c n 0 + 1);
-        more = λ j l. elim (ℕ-discrete n j) [
-          | yes d ↦
-              subst (λ (m : ℕ). getD (set c n (getD c n 0 + 1)) m 0 ≡ getD c m 0 + names p n m) d
-              (getD-set-same c n (getD c n 0 + 1) 0 h ∙ omega (arith, names-same (p .operand) n, ap one e))
-          | no d ↦ getD-set-other c n j (getD c n 0 + 1) 0 (λ q. d (sym q)) ∙ omega (arith, names-other (p .operand) n j d)
-        ];
-      }
+counted-coded : (u : Use) (n i : ℕ) (c : List ℕ) → let at = operandOr u n i in at < length c → Counted u n c (set c at (getD c at 0 + one (coded u .operand)))
+counted-coded unused n i c h = record { same = length-set c i (getD c i 0 + 0); more = λ j l. nothing-more c i j h }
+counted-coded signal n i c h = record { same = length-set c i (getD c i 0 + 0); more = λ j l. nothing-more c i j h }
+counted-coded (operand b) n i c h = counted-operand b n c h
 
-  counted-other : (i : ℕ) → p .operand ≡ false → i < length c → Counted p n c (set c i (getD c i 0 + 0))
-  counted-other i e h =
-      record {
-        same = length-set c i (getD c i 0 + 0);
-        more = λ j l.
-            let z : names p n j ≡ 0 = rw e in
-            elim (ℕ-discrete i j) [
-              | yes d ↦
-                  subst (λ (m : ℕ). getD (set c i (getD c i 0 + 0)) m 0 ≡ getD c m 0 + names p n j) d
-                  (getD-set-same c i (getD c i 0 + 0) 0 h ∙ omega arith)
-              | no d ↦ getD-set-other c i j (getD c i 0 + 0) 0 (λ q. d (sym q)) ∙ omega arith
-            ];
-      }
+pub counted : (p : Place) (u : Use) → p ≡ coded u → (n i : ℕ) (c : List ℕ) → let at = operandOr u n i in at < length c → Counted u n c (set c at (getD c at 0 + one (p .operand)))
+counted p u e n i c h =
+    let at = operandOr u n i in
+    subst (λ (q : Place). Counted u n c (set c at (getD c at 0 + one (q .operand)))) (sym e) (counted-coded u n i c h)
 
-  -- An operand gets one more, and node i nothing more where there is none.
-  pub counted : (i : ℕ) → let at = cond (p .operand) n i in at < length c → Counted p n c (set c at (getD c at 0 + one (p .operand)))
-  counted i = go (p .operand) refl
-    where
-      go : (o : Bool) → p .operand ≡ o → let at = cond o n i in at < length c → Counted p n c (set c at (getD c at 0 + one o))
-      go true e h = counted-operand e h
-      go false e h = counted-other i e h
-
-own-or-below : (o : Bool) (m n i : ℕ) → n < cond o i m → cond o n i ≤ i
-own-or-below true m n i h = omega arith
-own-or-below false m n i h = omega arith
+own-or-below : (u : Use) (n i : ℕ) → n < bound u i → operandOr u n i ≤ i
+own-or-below unused n i h = omega arith
+own-or-below signal n i h = omega arith
+own-or-below (operand b) n i h = omega arith
 
 -- Cleared counts, before the first node.
 pub untallied : (t : List ℕ) (n : ℕ) → lengthFits (pslRules .most) (length t) ≡ true → count t ≤ n → Tallied t 0 (replicate n 0)
@@ -118,34 +156,31 @@ module _ {t : List ℕ} {i : ℕ} {c : List ℕ} (T : Tallied t i c) (h : i < co
   sound : Sound pslRules t i
   sound = node-sound pslRules t i fine
 
-  kind-low : kindAt t i < 11
-  kind-low = known-kind pslRules (kindAt t i) (sound .kind)
-
   few : i < 1024
   few = omega (arith, sized pslRules t (T .right-length) .low)
 
-  abbrev pub left : Place
+  abbrev pub left : Use
   left = shapeOf pslRules (kindAt t i) .0
 
-  abbrev pub right : Place
+  abbrev pub right : Use
   right = shapeOf pslRules (kindAt t i) .1
 
-  -- The count that a place adds to has room for one more.
-  room : (p : Place) (n : ℕ) {b : Bool} → Fits p n i b → let at = cond (p .operand) n i in (at < length c) × (getD c at 0 < 65534)
-  room p n f =
-      let at = cond (p .operand) n i in
-      let l : at < length c = omega (arith, T .for-nodes, own-or-below (p .operand) (p .limit) n i (f .low)) in
+  -- The count that a place adds to has room for two more.
+  room : (u : Use) (n : ℕ) {b : Bool} → Fits pslRules u n i b → let at = operandOr u n i in (at < length c) × (getD c at 0 < 65534)
+  room u n f =
+      let at = operandOr u n i in
+      let l : at < length c = omega (arith, T .for-nodes, own-or-below u n i (f .low)) in
       (l, omega (arith, few, T .counts at l, uses-low t at i))
 
-  pub left-room : let at = cond (left .operand) (leftAt t i) i in (masked left ≡ true) × (at < length c) × (getD c at 0 < 65535)
-  left-room = let r = room left (leftAt t i) (sound .left) in (left-masked rules-made _ kind-low, r .0, omega arith)
+  pub left-room : (p : Place) → p ≡ coded left → Room p (leftAt t i) i c
+  left-room p e = let r = room left (leftAt t i) (sound .left) in record { meant = left; is = e; inside = r .0; few = omega (arith, r .1) }
 
   module _ (d : List ℕ) (L : Counted left (leftAt t i) c d) where
-    pub right-room : let at = cond (right .operand) (rightAt t i) i in (masked right ≡ true) × (at < length d) × (getD d at 0 < 65535)
-    right-room =
-        let at = cond (right .operand) (rightAt t i) i in
+    pub right-room : (p : Place) → p ≡ coded right → Room p (rightAt t i) i d
+    right-room p e =
+        let at = operandOr right (rightAt t i) i in
         let r = room right (rightAt t i) (sound .right) in
-        (right-masked rules-made _ kind-low, omega (arith, L .same), omega (arith, L .more at (r .0), one-low (left .operand && eqb (leftAt t i) at)))
+        record { meant = right; is = e; inside = omega (arith, r .0, L .same); few = omega (arith, r .1, L .more at (r .0), names-once left (leftAt t i) at) }
 
     pub tallied-next : (e : List ℕ) → Counted right (rightAt t i) d e → Tallied t (i + 1) e
     unfolding total namesAt

@@ -1,3 +1,4 @@
+pub mod SumLaw
 pub mod CheckLaw
 pub mod PartLaw
 pub mod AcceptedLaw

@@ -5,11 +5,9 @@ use mathlib.Core.Bool.{Bool, true, false}
 use mathlib.Core.List.{List}
 use mathlib.Core.Option.{none}
 use native.Mathlib.Omega.{arith}
-use lib.Dec.{ltb}
-use Rattle.table.specs.declared.Place.{Place}
 use Rattle.table.specs.Node.{node, count, kindAt, leftAt, rightAt, nodeAt}
-use Rattle.table.specs.Check.{shapeOf, isBoolean, tableRefusal}
-use Rattle.table.proofs.CheckLaw.{Fits, fit-below, fit-sort, kind-in, left-fits, right-fits}
+use Rattle.table.specs.Check.{Use, unused, signal, operand, shapeOf, booleanKind, isBoolean, tableRefusal}
+use Rattle.table.proofs.CheckLaw.{Fits, sort-is, kind-in, left-fits, right-fits}
 use Rattle.table.proofs.KindLaw.{_⨾_, each}
 use Rattle.table.proofs.ValueLaw.{Same, Local, root-value, value-of}
 use Rattle.logic.specs.Formula.{btrue, var, bnot, band, weak, strong, fnot, fand, next, until, abort}
@@ -43,10 +41,16 @@ abbrev pub Sorted : Bool → Part → Type 0
 Sorted true x = x ≡ boolean (asBoolean x)
 Sorted false x = x ≡ formula (asFormula x)
 
-kind-sort : (x : ℕ → Part) (l r k : ℕ) → k < 11 → Sorted (ltb k (pslRules .booleans)) (partOf x (node k l r))
+-- An operand is of its place's sort.
+abbrev pub OfSort : Use → Part → Type 0
+OfSort unused x = Unit {0}
+OfSort signal x = Unit {0}
+OfSort (operand b) x = Sorted b x
+
+kind-sort : (x : ℕ → Part) (l r k : ℕ) → k < 11 → Sorted (booleanKind (pslRules .sorts) k) (partOf x (node k l r))
 unfolding partOf
 kind-sort x l r =
-    each (λ k. Sorted (ltb k (pslRules .booleans)) (partOf x (node k l r))) 11
+    each (λ k. Sorted (booleanKind (pslRules .sorts) k) (partOf x (node k l r))) 11
     (refl ⨾ refl ⨾ refl ⨾ refl ⨾ refl ⨾ refl ⨾ refl ⨾ refl ⨾ refl ⨾ refl ⨾ refl ⨾ tt)
 
 pub part-root : (t : List ℕ) → formulaOf t ≡ formulaAt t (count t - 1)
@@ -63,21 +67,19 @@ module _ (t : List ℕ) (e : tableRefusal pslRules t ≡ none) where
       subst (Sorted (isBoolean pslRules t i)) (sym (part-node i h))
       (kind-sort (partAt t) (leftAt t i) (rightAt t i) (kindAt t i) (kind-in pslRules t e i h))
 
-  -- Of an operand, that of its place.
-  pub operand-sort : (p : Place) (n i : ℕ) → i < count t → Fits p n i (isBoolean pslRules t n) → p .operand ≡ true → Sorted (p .boolean) (partAt t n)
-  operand-sort p n i h f o =
-      let l = fit-below f o in
-      subst (λ (b : Bool). Sorted b (partAt t n)) (fit-sort f o) (part-sort n (omega arith))
+  operand-sort : (u : Use) (n i : ℕ) → i < count t → Fits pslRules u n i (isBoolean pslRules t n) → OfSort u (partAt t n)
+  operand-sort unused n i h f = tt
+  operand-sort signal n i h f = tt
+  operand-sort (operand b) n i h f = subst (λ (s : Bool). Sorted s (partAt t n)) (sort-is b (isBoolean pslRules t n) (f .sort)) (part-sort n (omega (arith, f .low)))
 
   -- ── Kind by kind ──
 
   module _ (i : ℕ) (h : i < count t) where
-    -- The sorts of the operands, where k has such: `left-part 3 q refl` for kind 3.
-    pub left-part : (k : ℕ) → kindAt t i ≡ k → shapeOf pslRules k .0 .operand ≡ true → Sorted (shapeOf pslRules k .0 .boolean) (partAt t (leftAt t i))
-    left-part k q o = operand-sort (shapeOf pslRules k .0) (leftAt t i) i h (left-fits pslRules t e i h k q) o
+    pub left-part : (k : ℕ) → kindAt t i ≡ k → OfSort (shapeOf pslRules k .0) (partAt t (leftAt t i))
+    left-part k q = operand-sort (shapeOf pslRules k .0) (leftAt t i) i h (left-fits pslRules t e i h k q)
 
-    pub right-part : (k : ℕ) → kindAt t i ≡ k → shapeOf pslRules k .1 .operand ≡ true → Sorted (shapeOf pslRules k .1 .boolean) (partAt t (rightAt t i))
-    right-part k q o = operand-sort (shapeOf pslRules k .1) (rightAt t i) i h (right-fits pslRules t e i h k q) o
+    pub right-part : (k : ℕ) → kindAt t i ≡ k → OfSort (shapeOf pslRules k .1) (partAt t (rightAt t i))
+    right-part k q = operand-sort (shapeOf pslRules k .1) (rightAt t i) i h (right-fits pslRules t e i h k q)
 
     part-kind : (k : ℕ) → kindAt t i ≡ k → partAt t i ≡ partOf (partAt t) (node k (leftAt t i) (rightAt t i))
     part-kind k q = part-node i h ∙ ap (λ (m : ℕ). partOf (partAt t) (node m (leftAt t i) (rightAt t i))) q

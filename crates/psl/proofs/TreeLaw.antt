@@ -2,24 +2,23 @@
 -- By counting twice: the parts' sums, added up, are the kinds' and, for each node, its own as often as it is an operand: once, but for the last.
 use Prim.Native.Nat.{ℕ, zero, suc, _+_, _*_, _-_, _≤_, _<_}
 use mathlib.Core.Path.{_≡_, refl, sym, ap, subst, _∙_}
-use mathlib.Core.Bool.{Bool, true, false, cond, _&&_}
+use mathlib.Core.Bool.{Bool, true}
 use mathlib.Core.List.{List}
 use mathlib.Core.Option.{none}
 use native.Mathlib.Omega.{arith}
 use native.Mathlib.Nat.{add-mul}
 use lib.Dec.{eqb}
-use Rattle.table.specs.declared.Place.{Place}
 use Rattle.table.specs.Node.{node, count, kindAt, leftAt, rightAt}
-use Rattle.table.specs.Check.{shapeOf, tableRefusal, total}
+use Rattle.table.specs.Check.{Use, unused, signal, operand, isOperand, shapeOf, tableRefusal}
 use Rattle.table.proofs.CheckLaw.{fit-below, kind-in, table-sized, table-sound}
 use Rattle.table.proofs.KindLaw.{_⨾_, each}
-use Rattle.table.proofs.SumLaw.{total-same, total-add, total-zero, total-one, total-ones}
+use Rattle.psl.proofs.SumLaw.{total-same, total-add, total-zero, total-one, total-ones}
 use Rattle.psl.specs.Size.{weighB, weigh, nodeCount}
 use Rattle.psl.specs.Table.{Part, boolean, formula, asBoolean, asFormula, partOf, formulaOf}
-use Rattle.psl.specs.Check.{pslRules, one, names, namesAt, uses, pslRefusal}
+use Rattle.psl.specs.Check.{pslRules, one, names, namesAt, uses, pslRefusal, total}
 use Rattle.psl.specs.Parts.{partAt, formulaAt}
 use Rattle.psl.proofs.CheckLaw.{names-same, names-other, psl-table, psl-used, psl-root}
-use Rattle.psl.proofs.PartLaw.{Sorted, part-root, part-node, part-sort, left-part, right-part}
+use Rattle.psl.proofs.PartLaw.{Sorted, OfSort, part-root, part-node, part-sort, left-part, right-part}
 
 zero-times : (a b : ℕ) → a ≡ 0 → a * b ≡ 0
 zero-times a b e = rw e (omega arith)
@@ -28,8 +27,10 @@ one-times : (a b : ℕ) → a ≡ 1 → a * b ≡ b
 one-times a b e = rw e (omega arith)
 
 -- What an operand's place adds.
-abbrev share : Place → ℕ → ℕ
-share p x = cond (p .operand) x 0
+abbrev share : Use → ℕ → ℕ
+share unused x = 0
+share signal x = 0
+share (operand b) x = x
 
 -- ── A part by its operands ──
 
@@ -46,8 +47,7 @@ module _ (w : ℕ → ℕ) where
 
   abbrev Weighed : (ℕ → Part) → ℕ → ℕ → ℕ → Type 0
   Weighed x l r k =
-      (shapeOf pslRules k .0 .operand ≡ true → Sorted (shapeOf pslRules k .0 .boolean) (x l))
-      → (shapeOf pslRules k .1 .operand ≡ true → Sorted (shapeOf pslRules k .1 .boolean) (x r))
+      OfSort (shapeOf pslRules k .0) (x l) → OfSort (shapeOf pslRules k .1) (x r)
       → weighP (partOf x (node k l r)) ≡ w k + share (shapeOf pslRules k .0) (weighP (x l)) + share (shapeOf pslRules k .1) (weighP (x r))
 
   weighed : (x : ℕ → Part) (l r k : ℕ) → k < 11 → Weighed x l r k
@@ -56,25 +56,26 @@ module _ (w : ℕ → ℕ) where
       each (Weighed x l r) 11
       ((λ p q. omega arith)
       ⨾ (λ p q. omega arith)
-      ⨾ (λ p q. omega (arith, of-boolean (x l) (p refl)))
-      ⨾ (λ p q. omega (arith, of-boolean (x l) (p refl), of-boolean (x r) (q refl)))
-      ⨾ (λ p q. omega (arith, of-boolean (x l) (p refl)))
-      ⨾ (λ p q. omega (arith, of-boolean (x l) (p refl)))
-      ⨾ (λ p q. omega (arith, of-formula (x l) (p refl)))
-      ⨾ (λ p q. omega (arith, of-formula (x l) (p refl), of-formula (x r) (q refl)))
-      ⨾ (λ p q. omega (arith, of-formula (x l) (p refl)))
-      ⨾ (λ p q. omega (arith, of-formula (x l) (p refl), of-formula (x r) (q refl)))
-      ⨾ (λ p q. omega (arith, of-formula (x l) (p refl), of-boolean (x r) (q refl)))
+      ⨾ (λ p q. omega (arith, of-boolean (x l) p))
+      ⨾ (λ p q. omega (arith, of-boolean (x l) p, of-boolean (x r) q))
+      ⨾ (λ p q. omega (arith, of-boolean (x l) p))
+      ⨾ (λ p q. omega (arith, of-boolean (x l) p))
+      ⨾ (λ p q. omega (arith, of-formula (x l) p))
+      ⨾ (λ p q. omega (arith, of-formula (x l) p, of-formula (x r) q))
+      ⨾ (λ p q. omega (arith, of-formula (x l) p))
+      ⨾ (λ p q. omega (arith, of-formula (x l) p, of-formula (x r) q))
+      ⨾ (λ p q. omega (arith, of-formula (x l) p, of-boolean (x r) q))
       ⨾ tt)
 
 -- ── Uses ──
 
 -- A place, summed over all nodes that it may name.
-names-sum : (o : Bool) (f : ℕ → ℕ) (n m : ℕ) → (o ≡ true → n < m) → total (λ j. one (o && eqb n j) * f j) m ≡ cond o (f n) 0
-names-sum true f n m h =
-    total-one (λ j. one (true && eqb n j) * f j) n m (h refl) (λ j q. zero-times (one (true && eqb n j)) (f j) (names-other true n j (λ d. q (sym d))))
-    ∙ one-times (one (true && eqb n n)) (f n) (names-same true n)
-names-sum false f n m h = total-zero (λ j. one false * f j) m (λ j q. zero-times (one false) (f j) refl)
+names-sum : (u : Use) (f : ℕ → ℕ) (n m : ℕ) → (isOperand u ≡ true → n < m) → total (λ j. names u n j * f j) m ≡ share u (f n)
+names-sum unused f n m h = total-zero (λ j. 0 * f j) m (λ j q. zero-times 0 (f j) refl)
+names-sum signal f n m h = total-zero (λ j. 0 * f j) m (λ j q. zero-times 0 (f j) refl)
+names-sum (operand b) f n m h =
+    total-one (λ j. one (eqb n j) * f j) n m (h refl) (λ j q. zero-times (one (eqb n j)) (f j) (names-other n j (λ d. q (sym d))))
+    ∙ one-times (one (eqb n n)) (f n) (names-same n)
 
 module _ (t : List ℕ) (e : tableRefusal pslRules t ≡ none) where
   abbrev shares : (ℕ → ℕ) → ℕ → ℕ
@@ -99,14 +100,15 @@ module _ (t : List ℕ) (e : tableRefusal pslRules t ≡ none) where
         total-add (λ j. u j * f j) (λ j. a j * f j + b j * f j) n,
         total-add (λ j. a j * f j) (λ j. b j * f j) n,
         uses-sum f i (omega arith),
-        names-sum (p .operand) f (leftAt t i) n (λ o. below (leftAt t i) (fit-below (s .left) o)),
-        names-sum (q .operand) f (rightAt t i) n (λ o. below (rightAt t i) (fit-below (s .right) o)),
+        names-sum p f (leftAt t i) n (λ o. below (leftAt t i) (fit-below (s .left) o)),
+        names-sum q f (rightAt t i) n (λ o. below (rightAt t i) (fit-below (s .right) o)),
       )
 
   -- No node names one that is not before it.
-  names-none : (o : Bool) (n j : ℕ) → (o ≡ true → n < j) → one (o && eqb n j) ≡ 0
-  names-none true n j h = names-other true n j (λ d. omega (arith, h refl))
-  names-none false n j h = refl
+  names-none : (u : Use) (n j : ℕ) → (isOperand u ≡ true → n < j) → names u n j ≡ 0
+  names-none unused n j h = refl
+  names-none signal n j h = refl
+  names-none (operand b) n j h = names-other n j (λ d. omega (arith, h refl))
 
   unused-last : (m : ℕ) → count t ≡ suc m → uses t m ≡ 0
   unfolding namesAt
@@ -118,8 +120,8 @@ module _ (t : List ℕ) (e : tableRefusal pslRules t ≡ none) where
       let above : (d : ℕ) → d < i → d < m = λ d l. omega arith in
       omega (
         arith,
-        names-none (p .operand) (leftAt t i) m (λ o. above (leftAt t i) (fit-below (s .left) o)),
-        names-none (q .operand) (rightAt t i) m (λ o. above (rightAt t i) (fit-below (s .right) o)),
+        names-none p (leftAt t i) m (λ o. above (leftAt t i) (fit-below (s .left) o)),
+        names-none q (rightAt t i) m (λ o. above (rightAt t i) (fit-below (s .right) o)),
       ))
 
 -- ── The theorem ──

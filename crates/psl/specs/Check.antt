@@ -1,37 +1,34 @@
 -- What the PSL check refuses.
-use mathlib.Core.Bool.{Bool, true, false, not, _&&_}
-use mathlib.Core.Option.{Option, none}
+use mathlib.Core.Bool.{Bool, true, false, not}
+use mathlib.Core.Option.{Option, none, some}
 use mathlib.Core.List.{List, [], _∷_}
-use Prim.Native.Nat.{ℕ, _+_, _-_}
+use Prim.Native.Nat.{ℕ, zero, suc, _+_, _-_}
 use lib.Dec.{eqb}
 use Rattle.trace.specs.declared.Refusal.{Refusal}
-use Rattle.table.specs.declared.Place.{Place}
-use Rattle.table.specs.declared.Rules.{Rules}
 use Rattle.table.specs.Answer.{refused}
 use Rattle.table.specs.Node.{count, kindAt, leftAt, rightAt}
-use Rattle.table.specs.Check.{unused, signal, boolean, formula, places, shapeOf, isBoolean, unless, orElse, lowest, tableRefusal, total}
+use Rattle.table.specs.Check.{Use, unused, signal, operand, boolean, formula, Rules, shapeOf, isBoolean, unless, orElse, lowest, tableRefusal}
 
 -- What stands left and right, kind by kind. The first four kinds are Booleans, the others formulas.
 abbrev pub pslRules : Rules
 pslRules =
     record {
-      shapes =
-          places unused unused  -- 0 true
-          ∷ places signal unused  -- 1 var
-          ∷ places boolean unused  -- 2 bnot
-          ∷ places boolean boolean  -- 3 band
-          ∷ places boolean unused  -- 4 weak
-          ∷ places boolean unused  -- 5 strong
-          ∷ places formula unused  -- 6 not
-          ∷ places formula formula  -- 7 and
-          ∷ places formula unused  -- 8 next
-          ∷ places formula formula  -- 9 until
-          ∷ places formula boolean  -- 10 abort
+      kinds =
+          (unused, unused)  -- 0 true
+          ∷ (signal, unused)  -- 1 var
+          ∷ (boolean, unused)  -- 2 bnot
+          ∷ (boolean, boolean)  -- 3 band
+          ∷ (boolean, unused)  -- 4 weak
+          ∷ (boolean, unused)  -- 5 strong
+          ∷ (formula, unused)  -- 6 not
+          ∷ (formula, formula)  -- 7 and
+          ∷ (formula, unused)  -- 8 next
+          ∷ (formula, formula)  -- 9 until
+          ∷ (formula, boolean)  -- 10 abort
           ∷ [];
-      kinds = 11;
-      booleans = 4;
       most = 1024;
-      numbers = record { length = 1; kind = 2; unused = 3; signal = 4; operand = 5; sort = 6 };
+      numbers = record { length = 1; kind = 2; unused = 3; signal = 4; operand = 5 };
+      sorts = some record { booleans = 4; number = 6 };
     }
 
 -- How often a place that holds n names node j: once or not at all.
@@ -39,8 +36,15 @@ abbrev pub one : Bool → ℕ
 one true = 1
 one false = 0
 
-abbrev pub names : Place → ℕ → ℕ → ℕ
-names p n j = one (p .operand && eqb n j)
+abbrev pub names : Use → ℕ → ℕ → ℕ
+names unused n j = 0
+names signal n j = 0
+names (operand b) n j = one (eqb n j)
+
+-- The sum over the numbers below n.
+unfoldable pub total : (ℕ → ℕ) → ℕ → ℕ
+total f zero = 0
+total f (suc n) = total f n + f n
 
 -- How often node i names node j, and how often all nodes do.
 unfoldable pub namesAt : List ℕ → ℕ → ℕ → ℕ

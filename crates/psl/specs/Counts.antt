@@ -5,15 +5,23 @@ use mathlib.Core.Option.{none}
 use mathlib.Core.List.{List}
 use Prim.Native.Nat.{ℕ, _+_, _≤_, _<_}
 use lib.ListN.{length, getD}
-use Rattle.table.specs.declared.Place.{Place}
 use Rattle.table.specs.Node.{count}
-use Rattle.table.specs.Check.{lengthFits, refusalAt, lowest, total}
-use Rattle.psl.specs.Check.{pslRules, names, namesAt}
+use Rattle.table.specs.declared.Place.{Place}
+use Rattle.table.specs.Check.{Use, lengthFits, refusalAt, lowest}
+use Rattle.table.specs.Inner.Place.{coded, operandOr}
+use Rattle.psl.specs.Check.{pslRules, names, namesAt, total}
 
 -- d is c with the uses by a place that holds n added.
-pub record Counted (p : Place) (n : ℕ) (c d : List ℕ) : Type 0 where
+pub record Counted (u : Use) (n : ℕ) (c d : List ℕ) : Type 0 where
   pub same : length d ≡ length c
-  pub more : (j : ℕ) → j < length c → getD d j 0 ≡ getD c j 0 + names p n j
+  pub more : (j : ℕ) → j < length c → getD d j 0 ≡ getD c j 0 + names u n j
+
+-- The code's place p of node i, which holds n, is counted in c where there is room for one more.
+pub record Room (p : Place) (n i : ℕ) (c : List ℕ) : Type 0 where
+  pub meant : Use
+  pub is : p ≡ coded meant
+  pub inside : operandOr meant n i < length c
+  pub few : getD c (operandOr meant n i) 0 < 65535
 
 -- Of a table of the right length whose first i nodes are not refused, c holds how often these name each node.
 pub record Tallied (t : List ℕ) (i : ℕ) (c : List ℕ) : Type 0 where

@@ -11,15 +11,16 @@ use table::Shape;
 use table::UNUSED;
 use trace::Refusal;
 ghost use mathlib.Core.Path.{_≡_};
-ghost use mathlib.Core.Bool.{true, cond, _&&_};
+ghost use mathlib.Core.Bool.{_&&_};
 ghost use Prim.Native.Nat.{_<_};
 ghost use lib.Dec.{ltb};
-ghost use lib.ListN.{length, getD};
 ghost use Rattle.table.specs.Answer.{checked};
 ghost use Rattle.table.specs.Node.{count, kindAt};
-ghost use Rattle.table.specs.Check.{masked, sortFits, allFit, FirstRefused};
+ghost use Rattle.table.specs.Check.{Use, sortFits};
+ghost use Rattle.table.specs.Inner.Place.{coded, codedShape, operandOr, allFit};
+ghost use Rattle.table.specs.Inner.First.{FirstRefused};
 ghost use Rattle.psl.specs.Check.{pslRules, one, treeRefusal, pslRefusal};
-ghost use Rattle.psl.specs.Counts.{Counted, Tallied};
+ghost use Rattle.psl.specs.Counts.{Counted, Room, Tallied};
 ghost use Rattle.psl.specs.Answer.{PslChecks};
 
 // What stands left and right, kind by kind. The first four kinds are Booleans, the others formulas.
@@ -52,16 +53,15 @@ pub const PSL: Rules = Rules {
 
 // The node whose kind is read for a place: where the place has no operand, any will do.
 fn named(p: Place, n: u16) -> u16
-    requires { ⌜ masked p ≡ true ⌝ }
-    ensures { λ r. ⌜ r ≡ cond (p .operand) n 0 ⌝ }
+    ensures { λ r. ⌜ ((u : Use) → p ≡ coded u → r ≡ operandOr u n 0) ⌝ }
 {
     n & p.mask
 }
 
 // What place p names is of its sort.
 fn named_fits(p: Place, n: u16, t: &[u16], booleans: u16) -> bool
-    requires { ⌜ (masked p ≡ true) × (cond (p .operand) n 0 < count (now t)) ⌝ }
-    ensures { λ r. ⌜ r ≡ sortFits p (ltb (kindAt (now (t .entry)) n) booleans) ⌝ }
+    requires { ⌜ ((u : Use) × (p ≡ coded u) × (operandOr u n 0 < count (now t))) ⌝ }
+    ensures { λ r. ⌜ ((u : Use) → p ≡ coded u → r ≡ sortFits u (ltb (kindAt (now (t .entry)) n) booleans)) ⌝ }
 {
     let m = named(p, n) as usize;
     table::sort_fits(p, t[3 * m] < booleans)
@@ -69,8 +69,8 @@ fn named_fits(p: Place, n: u16, t: &[u16], booleans: u16) -> bool
 
 // All four tests at once, and for both places, without a branch on what a place holds: first that it is low enough, then its sort.
 fn places_fit(h: Shape, i: u16, l: u16, r: u16, t: &[u16], booleans: u16) -> bool
-    requires { ⌜ (i < count (now t)) × (masked (h .0) ≡ true) × (masked (h .1) ≡ true) ⌝ }
-    ensures { λ x. ⌜ x ≡ (allFit (h .0) l i (ltb (kindAt (now (t .entry)) l) booleans) && allFit (h .1) r i (ltb (kindAt (now (t .entry)) r) booleans)) ⌝ }
+    requires { ⌜ (i < count (now t)) × ((u : Use × Use) × (h ≡ codedShape u)) ⌝ }
+    ensures { λ x. ⌜ ((u : Use × Use) → h ≡ codedShape u → x ≡ (allFit pslRules (u .0) l i (ltb (kindAt (now (t .entry)) l) booleans) && allFit pslRules (u .1) r i (ltb (kindAt (now (t .entry)) r) booleans))) ⌝ }
 {
     let p = h.0;
     let q = h.1;
@@ -82,8 +82,7 @@ fn places_fit(h: Shape, i: u16, l: u16, r: u16, t: &[u16], booleans: u16) -> boo
 
 // Where a place that holds n is counted: at its operand, or else at its own node i.
 fn counted_at(p: Place, n: u16, i: u16) -> u16
-    requires { ⌜ masked p ≡ true ⌝ }
-    ensures { λ r. ⌜ r ≡ cond (p .operand) n i ⌝ }
+    ensures { λ r. ⌜ ((u : Use) → p ≡ coded u → r ≡ operandOr u n i) ⌝ }
 {
     (n & p.mask) | (i & !p.mask)
 }
@@ -97,8 +96,8 @@ fn one(b: bool) -> u16
 // A place of node i that holds n is counted: if that is an operand, it is used once more. Nothing is added where it is none, which takes no
 // branch.
 fn count_place(p: Place, n: u16, i: u16, c: &mut [u16])
-    requires { ⌜ (masked p ≡ true) × (cond (p .operand) n i < length (now c)) × (getD (now c) (cond (p .operand) n i) 0 < 65535) ⌝ }
-    ensures { λ _. ⌜ Counted p n (now (c .entry)) (now (c .exit)) ⌝ }
+    requires { ⌜ Room p n i (now c) ⌝ }
+    ensures { λ _. ⌜ ((u : Use) → p ≡ coded u → Counted u n (now (c .entry)) (now (c .exit))) ⌝ }
 {
     let at = counted_at(p, n, i) as usize;
     let more = one(p.operand);

@@ -1,26 +1,23 @@
 -- Laws of the check that both tables share: when a node is refused, which refusal decides, and what a table that is not refused is like.
 use mathlib.Core.Path.{_≡_, refl, sym, ap, _∙_, subst}
-use mathlib.Core.Bool.{Bool, true, false, not, cond, _&&_, _||_, and-false, Bool·beq}
+use mathlib.Core.Bool.{Bool, true, false, _&&_, _||_, Bool·beq}
 use mathlib.Core.Option.{Option, none, some}
 use mathlib.Core.List.{List}
-use Prim.Native.Nat.{ℕ, zero, suc, _+_, _*_, _-_, _/_, _%_, _≤_, _<_}
+use Prim.Native.Nat.{ℕ, zero, suc, _+_, _*_, _/_, _%_, _≤_, _<_}
 use native.Mathlib.Omega.{arith}
 use native.Mathlib.Numerals.{add-one}
-use native.Mathlib.Decide.{decLt, ℕ-discrete}
+use native.Mathlib.Decide.{decLt}
 use lib.Dec.{eqb, ltb, leb}
 use lib.ListN.{length}
-use lib.Bits.{bitAnd, bitOr, and-mask, and-zero-r, or-zero-l, or-zero-r}
-use borrow.Author.Tests.{lt-ltb, le-ltb, eq-eqb, ne-eqb, eqb-true, ltb-true, leb-true}
+use borrow.Author.Tests.{lt-ltb, le-ltb, eq-eqb, eqb-true, ltb-true, leb-true}
+use Rattle.logic.specs.Letter.{signals}
 use Rattle.trace.specs.declared.Refusal.{Refusal}
-use Rattle.table.specs.declared.Place.{Place}
-use Rattle.table.specs.declared.Shape.{Shape}
-use Rattle.table.specs.declared.Numbers.{Numbers}
-use Rattle.table.specs.declared.Rules.{Rules}
 use Rattle.table.specs.declared.Checked.{Checked}
 use Rattle.table.specs.declared.Checked.the-variants.{Accepted, Refused}
 use Rattle.table.specs.Answer.{refused, checked}
 use Rattle.table.specs.Node.{node, count, kindAt, leftAt, rightAt}
-use Rattle.table.specs.Check.{unusedFits, signalFits, operandFits, sortFits, lowFits, allFit, lengthFits, known, mostKinds, shapeOf, masked, unless, placesRefusal, nodeRefusal, isBoolean, refusalAt, orElse, lowest, tableRefusal}
+use Rattle.table.specs.Check.{Use, unused, signal, operand, Sorts, Rules, isOperand, known, shapeOf, unusedFits, signalFits, operandFits, sortFits, lengthFits, unless, sortRefusal, placesRefusal, nodeRefusal, isBoolean, refusalAt, orElse, lowest, tableRefusal}
+use Rattle.table.specs.Inner.Place.{bound, lowFits, sortsFit, allFit}
 
 -- ── Tests and answers ──
 
@@ -42,6 +39,10 @@ pub or-none : (o p : Option Refusal) → orElse o p ≡ none → (o ≡ none) ×
 or-none none p e = (refl, e)
 or-none (some x) p e = absurd (some-none e)
 
+pub either-false : (a b : Bool) → a || b ≡ false → (a ≡ false) × (b ≡ false)
+either-false true b e = absurd (not-both true refl e)
+either-false false b e = (refl, e)
+
 -- The answer tells the refusal.
 pub accepted : (o : Option Refusal) (a : Checked) → a ≡ checked o → a ≡ Accepted → o ≡ none
 accepted none a e d = refl
@@ -53,175 +54,89 @@ was-refused (some y) a x e d = cc
 
 -- ── A place ──
 
--- A place that holds n, at node i, passes all tests; b tells whether the operand is a Boolean.
-pub record Fits (p : Place) (n i : ℕ) (b : Bool) : Type 0 where
-  pub low : n < cond (p .operand) i (p .limit)
-  pub sort : sortFits p b ≡ true
+-- A place of node i that holds n passes all tests; b tells whether what it names is a Boolean.
+pub record Fits (R : Rules) (u : Use) (n i : ℕ) (b : Bool) : Type 0 where
+  pub low : n < bound u i
+  pub sort : sortsFit (R .sorts) u b ≡ true
 
-unused-fits : (o : Bool) (m n i : ℕ) → n < cond o i m → (o || not (eqb m 1)) || eqb n 0 ≡ true
-unused-fits true m n i h = refl
-unused-fits false m n i h =
-    elim (ℕ-discrete m 1) [
-      | yes e ↦ rw (eq-eqb m 1 e, eq-eqb n 0 (omega arith))
-      | no e ↦ rw (ne-eqb m 1 e)
-    ]
+unused-fits : (u : Use) (n i : ℕ) → n < bound u i → unusedFits u n ≡ true
+unused-fits unused n i h = eq-eqb n 0 (omega arith)
+unused-fits signal n i h = refl
+unused-fits (operand b) n i h = refl
 
-signal-fits : (o : Bool) (m n i : ℕ) → n < cond o i m → o || ltb n m ≡ true
-signal-fits true m n i h = refl
-signal-fits false m n i h = lt-ltb n m h
+signal-fits : (u : Use) (n i : ℕ) → n < bound u i → signalFits u n ≡ true
+signal-fits unused n i h = refl
+signal-fits signal n i h = lt-ltb n signals h
+signal-fits (operand b) n i h = refl
 
-operand-fits : (o : Bool) (m n i : ℕ) → n < cond o i m → not o || ltb n i ≡ true
-operand-fits true m n i h = lt-ltb n i h
-operand-fits false m n i h = refl
+operand-fits : (u : Use) (n i : ℕ) → n < bound u i → operandFits u n i ≡ true
+operand-fits unused n i h = refl
+operand-fits signal n i h = refl
+operand-fits (operand b) n i h = lt-ltb n i h
 
-low-fits : (o : Bool) (m n i : ℕ) → o || ltb n m ≡ true → not o || ltb n i ≡ true → n < cond o i m
-low-fits true m n i e d = ltb-true n i d
-low-fits false m n i e d = ltb-true n m e
+low-fits : (u : Use) (n i : ℕ) → unusedFits u n ≡ true → signalFits u n ≡ true → operandFits u n i ≡ true → n < bound u i
+low-fits unused n i e d c = omega (arith, eqb-true n 0 e)
+low-fits signal n i e d c = ltb-true n signals d
+low-fits (operand b) n i e d c = ltb-true n i c
 
-all-fits : (p : Place) (n i : ℕ) (b : Bool) → allFit p n i b ≡ true → Fits p n i b
-all-fits p n i b e =
-    let c = both-true (ltb n (cond (p .operand) i (p .limit))) (sortFits p b) e in
-    record { low = ltb-true n (cond (p .operand) i (p .limit)) (c .0); sort = c .1 }
+all-fits : (R : Rules) (u : Use) (n i : ℕ) (b : Bool) → allFit R u n i b ≡ true → Fits R u n i b
+all-fits R u n i b e =
+    let c = both-true (sortsFit (R .sorts) u b) (lowFits u n i) e in
+    record { low = ltb-true n (bound u i) (c .1); sort = c .0 }
 
-fits-all : (p : Place) (n i : ℕ) (b : Bool) → Fits p n i b → allFit p n i b ≡ true
-fits-all p n i b f = rw (lt-ltb n (cond (p .operand) i (p .limit)) (f .low)) (f .sort)
+fits-all : (R : Rules) (u : Use) (n i : ℕ) (b : Bool) → Fits R u n i b → allFit R u n i b ≡ true
+fits-all R u n i b f = rw (f .sort) (lt-ltb n (bound u i) (f .low))
 
--- The sort of an operand.
-sort-is : (o b m : Bool) → not o || Bool·beq b m ≡ true → o ≡ true → b ≡ m
-sort-is true true true e d = refl
-sort-is true true false e d = sym e
-sort-is true false true e d = e
-sort-is true false false e d = refl
-sort-is false b m e d = absurd (not-both true refl (sym d))
+-- The sort of an operand, where there are sorts.
+pub sort-is : (b s : Bool) → Bool·beq s b ≡ true → s ≡ b
+sort-is true true e = refl
+sort-is true false e = e
+sort-is false true e = sym e
+sort-is false false e = refl
 
-pub fit-sort : {p : Place} {n i : ℕ} {b : Bool} → Fits p n i b → p .operand ≡ true → b ≡ p .boolean
-fit-sort {p} {n} {i} {b} f d = sort-is (p .operand) b (p .boolean) (f .sort) d
-
-pub fit-below : {p : Place} {n i : ℕ} {b : Bool} → Fits p n i b → p .operand ≡ true → n < i
-fit-below {p} {n} {i} f d = subst (λ (o : Bool). n < cond o i (p .limit)) d (f .low)
-
--- ── Both places, as the loop tests them ──
-
--- A mask keeps a number or clears it, as the place has an operand or not.
-mask-is : (o : Bool) (k m : ℕ) → cond o (eqb k 65535 && eqb m 0) (eqb k 0) ≡ true → (k ≡ cond o 65535 0) × (o ≡ true → m ≡ 0)
-mask-is true k m e = let b = both-true (eqb k 65535) (eqb m 0) e in (eqb-true k 65535 (b .0), λ _. eqb-true m 0 (b .1))
-mask-is false k m e = (eqb-true k 0 e, λ d. absurd (not-both true refl (sym d)))
-
-and-ones : (n : ℕ) → n < 65536 → bitAnd n 65535 ≡ n
-and-ones n h = let z : bitAnd n 65535 ≡ n % 65536 = and-mask n 16 in omega arith
-
-module _ (p : Place) (e : masked p ≡ true) where
-  pub named-is : (n : ℕ) → n < 65536 → bitAnd n (p .mask) ≡ cond (p .operand) n 0
-  named-is n h = rw (mask-is (p .operand) (p .mask) (p .limit) e .0) (go (p .operand))
-    where
-      go : (o : Bool) → bitAnd n (cond o 65535 0) ≡ cond o n 0
-      go true = and-ones n h
-      go false = and-zero-r n
-
-  -- The mask's complement keeps what the mask clears.
-  pub other-is : (n : ℕ) → n < 65536 → bitAnd n (65535 - p .mask) ≡ cond (p .operand) 0 n
-  other-is n h = rw (mask-is (p .operand) (p .mask) (p .limit) e .0) (go (p .operand))
-    where
-      go : (o : Bool) → bitAnd n (65535 - cond o 65535 0) ≡ cond o 0 n
-      go true = and-zero-r n
-      go false = and-ones n h
-
-  pub bound-is : (i : ℕ) → i < 65536 → bitOr (bitAnd i (p .mask)) (p .limit) ≡ cond (p .operand) i (p .limit)
-  bound-is i h = rw (named-is i h) (go (p .operand) (mask-is (p .operand) (p .mask) (p .limit) e .1))
-    where
-      go : (o : Bool) → (o ≡ true → p .limit ≡ 0) → bitOr (cond o i 0) (p .limit) ≡ cond o i (p .limit)
-      go true z = rw (z refl) (or-zero-r i)
-      go false z = or-zero-l (p .limit)
-
-either-false : (a b : Bool) → a || b ≡ false → (a ≡ false) × (b ≡ false)
-either-false true b e = absurd (not-both true refl e)
-either-false false b e = (refl, e)
-
-one-fails : (a b c d : Bool) → a && b ≡ false → false ≡ (a && c) && (b && d)
-one-fails true true c d e = absurd (not-both true refl e)
-one-fails true false c d e = sym (and-false c)
-one-fails false b c d e = refl
-
-plain-sort : (o b : Bool) → o && b ≡ false → not o || Bool·beq false b ≡ true
-plain-sort true true e = absurd (not-both true refl e)
-plain-sort true false e = refl
-plain-sort false b e = refl
-
-named-in : (o : Bool) (m n i c : ℕ) → n < cond o i m → i < c → cond o n 0 < c
-named-in true m n i c h g = omega arith
-named-in false m n i c h g = omega arith
-
--- Where there is no operand, any kind will do.
-pub named-sort : (p : Place) (t : List ℕ) (n m : ℕ) → sortFits p (ltb (kindAt t (cond (p .operand) n 0)) m) ≡ sortFits p (ltb (kindAt t n) m)
-named-sort p t n m = go (p .operand) (p .boolean)
+pub fit-below : {R : Rules} {u : Use} {n i : ℕ} {b : Bool} → Fits R u n i b → isOperand u ≡ true → n < i
+fit-below {R} {u} {n} {i} {b} f = go u (f .low)
   where
-    go : (o b : Bool) → not o || Bool·beq (ltb (kindAt t (cond o n 0)) m) b ≡ not o || Bool·beq (ltb (kindAt t n) m) b
-    go true b = refl
-    go false b = refl
+    go : (u : Use) → n < bound u i → isOperand u ≡ true → n < i
+    go unused h e = absurd (not-both true refl (sym e))
+    go signal h e = absurd (not-both true refl (sym e))
+    go (operand c) h e = h
 
--- A place of the shape asks for a Boolean.
-abbrev pub asksBoolean : Shape → Bool
-asksBoolean h = (h .0 .operand && h .0 .boolean) || (h .1 .operand && h .1 .boolean)
-
-abbrev pub BothLow : Shape → ℕ → ℕ → ℕ → Bool
-BothLow h i l r = lowFits (h .0) l i && lowFits (h .1) r i
-
--- What the places l and r name in t has its kind; those below m are Booleans.
-module _ (h : Shape) (i l r : ℕ) (t : List ℕ) (m : ℕ) where
-  abbrev BothFit : Bool
-  BothFit = allFit (h .0) l i (ltb (kindAt t l) m) && allFit (h .1) r i (ltb (kindAt t r) m)
-
-  pub not-low : BothLow h i l r ≡ false → false ≡ BothFit
-  not-low e = one-fails (lowFits (h .0) l i) (lowFits (h .1) r i) (sortFits (h .0) (ltb (kindAt t l) m)) (sortFits (h .1) (ltb (kindAt t r) m)) e
-
-  module _ (e : BothLow h i l r ≡ true) where
-    lows : (lowFits (h .0) l i ≡ true) × (lowFits (h .1) r i ≡ true)
-    lows = both-true (lowFits (h .0) l i) (lowFits (h .1) r i) e
-
-    -- Each operand is a node of the table, as its user is.
-    module _ (u : i < count t) where
-      pub left-in : cond (h .0 .operand) l 0 < count t
-      left-in = named-in (h .0 .operand) (h .0 .limit) l i (count t) (ltb-true _ _ (lows .0)) u
-
-      pub right-in : cond (h .1 .operand) r 0 < count t
-      right-in = named-in (h .1 .operand) (h .1 .limit) r i (count t) (ltb-true _ _ (lows .1)) u
-
-    pub low-sorts : sortFits (h .0) (ltb (kindAt t l) m) && sortFits (h .1) (ltb (kindAt t r) m) ≡ BothFit
-    low-sorts = rw (lows .0, lows .1)
-
-    -- Where there is no Boolean, and none is asked for, there is nothing more to test.
-    pub low-plain : m ≡ 0 → asksBoolean h ≡ false → true ≡ BothFit
-    low-plain z d =
-        let f = either-false (h .0 .operand && h .0 .boolean) (h .1 .operand && h .1 .boolean) d in
-        rw (
-          ← low-sorts,
-          z,
-          le-ltb (kindAt t l) 0 (omega arith),
-          le-ltb (kindAt t r) 0 (omega arith),
-          plain-sort (h .0 .operand) (h .0 .boolean) (f .0),
-          plain-sort (h .1 .operand) (h .1 .boolean) (f .1),
-        )
+-- The sort matters of an operand alone.
+pub fits-same : {R : Rules} {u : Use} {n i : ℕ} {b c : Bool} → Fits R u n i b → (isOperand u ≡ true → c ≡ b) → Fits R u n i c
+fits-same {R} {u} {n} {i} {b} {c} f e = record { low = f .low; sort = go (R .sorts) u (f .sort) e }
+  where
+    go : (S : Option Sorts) (u : Use) → sortsFit S u b ≡ true → (isOperand u ≡ true → c ≡ b) → sortsFit S u c ≡ true
+    go none u d e = refl
+    go (some s) unused d e = refl
+    go (some s) signal d e = refl
+    go (some s) (operand o) d e = subst (λ (x : Bool). Bool·beq x o ≡ true) (sym (e refl)) d
 
 -- ── A node ──
 
-module _ (x : Numbers) (h : Shape) (i l r : ℕ) (lb rb : Bool) where
-  pub places-none : Fits (h .0) l i lb → Fits (h .1) r i rb → placesRefusal x h i l r lb rb ≡ none
+sorts-none : (S : Option Sorts) (h : Use × Use) (lb rb : Bool) → sortsFit S (h .0) lb ≡ true → sortsFit S (h .1) rb ≡ true → sortRefusal S h lb rb ≡ none
+sorts-none none h lb rb e d = refl
+sorts-none (some s) h lb rb e d = rw (e, d)
+
+sorts-fit : (S : Option Sorts) (h : Use × Use) (lb rb : Bool) → sortRefusal S h lb rb ≡ none → (sortsFit S (h .0) lb ≡ true) × (sortsFit S (h .1) rb ≡ true)
+sorts-fit none h lb rb e = (refl, refl)
+sorts-fit (some s) h lb rb e =
+    both-true (sortFits (h .0) lb) (sortFits (h .1) rb) (unless-none (sortFits (h .0) lb && sortFits (h .1) rb) _ none e .0)
+
+module _ (R : Rules) (h : Use × Use) (i l r : ℕ) (lb rb : Bool) where
+  pub places-none : Fits R (h .0) l i lb → Fits R (h .1) r i rb → placesRefusal R h i l r lb rb ≡ none
   unfolding placesRefusal
   places-none f g =
-      let p = h .0 in
-      let q = h .1 in
       rw (
-        unused-fits (p .operand) (p .limit) l i (f .low),
-        unused-fits (q .operand) (q .limit) r i (g .low),
-        signal-fits (p .operand) (p .limit) l i (f .low),
-        signal-fits (q .operand) (q .limit) r i (g .low),
-        operand-fits (p .operand) (p .limit) l i (f .low),
-        operand-fits (q .operand) (q .limit) r i (g .low),
-        f .sort,
-        g .sort,
-      )
+        unused-fits (h .0) l i (f .low),
+        unused-fits (h .1) r i (g .low),
+        signal-fits (h .0) l i (f .low),
+        signal-fits (h .1) r i (g .low),
+        operand-fits (h .0) l i (f .low),
+        operand-fits (h .1) r i (g .low),
+      ) (sorts-none (R .sorts) h lb rb (f .sort) (g .sort))
 
-  pub places-fit : placesRefusal x h i l r lb rb ≡ none → Fits (h .0) l i lb × Fits (h .1) r i rb
+  pub places-fit : placesRefusal R h i l r lb rb ≡ none → Fits R (h .0) l i lb × Fits R (h .1) r i rb
   unfolding placesRefusal
   places-fit e =
       let p = h .0 in
@@ -229,85 +144,59 @@ module _ (x : Numbers) (h : Shape) (i l r : ℕ) (lb rb : Bool) where
       let a = unless-none (unusedFits p l && unusedFits q r) _ _ e in
       let b = unless-none (signalFits p l && signalFits q r) _ _ (a .1) in
       let c = unless-none (operandFits p l i && operandFits q r i) _ _ (b .1) in
-      let d = unless-none (sortFits p lb && sortFits q rb) _ none (c .1) in
+      let u = both-true (unusedFits p l) (unusedFits q r) (a .0) in
       let s = both-true (signalFits p l) (signalFits q r) (b .0) in
       let o = both-true (operandFits p l i) (operandFits q r i) (c .0) in
-      let t = both-true (sortFits p lb) (sortFits q rb) (d .0) in (
-        record { low = low-fits (p .operand) (p .limit) l i (s .0) (o .0); sort = t .0 },
-        record { low = low-fits (q .operand) (q .limit) r i (s .1) (o .1); sort = t .1 },
+      let t = sorts-fit (R .sorts) h lb rb (c .1) in (
+        record { low = low-fits p l i (u .0) (s .0) (o .0); sort = t .0 },
+        record { low = low-fits q r i (u .1) (s .1) (o .1); sort = t .1 },
       )
 
 -- What a node that is not refused is like.
 pub record Sound (R : Rules) (t : List ℕ) (i : ℕ) : Type 0 where
   pub kind : known R (kindAt t i) ≡ true
-  pub left : Fits (shapeOf R (kindAt t i) .0) (leftAt t i) i (isBoolean R t (leftAt t i))
-  pub right : Fits (shapeOf R (kindAt t i) .1) (rightAt t i) i (isBoolean R t (rightAt t i))
-
-module _ (R : Rules) (k : ℕ) (e : known R k ≡ true) where
-  pub known-kind : k < R .kinds
-  known-kind = ltb-true k (R .kinds) (both-true (ltb k (R .kinds)) (ltb k mostKinds) e .0)
-
-  pub known-low : k < mostKinds
-  known-low = ltb-true k mostKinds (both-true (ltb k (R .kinds)) (ltb k mostKinds) e .1)
-
--- Rules that a check can use: every kind has a shape, and its masks are right.
-pub record WellMade (R : Rules) : Type 0 where
-  pub kinds : R .kinds ≤ mostKinds
-  pub masks : (k : ℕ) → k < mostKinds → masked (shapeOf R k .0) && masked (shapeOf R k .1) ≡ true
-
-module _ {R : Rules} (w : WellMade R) (k : ℕ) (h : k < mostKinds) where
-  pub left-masked : masked (shapeOf R k .0) ≡ true
-  left-masked = both-true (masked (shapeOf R k .0)) (masked (shapeOf R k .1)) (w .masks k h) .0
-
-  pub right-masked : masked (shapeOf R k .1) ≡ true
-  right-masked = both-true (masked (shapeOf R k .0)) (masked (shapeOf R k .1)) (w .masks k h) .1
-
--- The loop tests only that a kind is below the number of kinds.
-pub kind-known : {R : Rules} (w : WellMade R) (k : ℕ) → k < R .kinds → known R k ≡ true
-kind-known {R} w k h = rw (lt-ltb k (R .kinds) h, lt-ltb k mostKinds (omega (arith, w .kinds)))
-
-pub kind-unknown : (R : Rules) (k : ℕ) → R .kinds ≤ k → known R k ≡ false
-kind-unknown R k h = rw (le-ltb k (R .kinds) h)
+  pub left : Fits R (shapeOf R (kindAt t i) .0) (leftAt t i) i (isBoolean R t (leftAt t i))
+  pub right : Fits R (shapeOf R (kindAt t i) .1) (rightAt t i) i (isBoolean R t (rightAt t i))
 
 module _ (R : Rules) (t : List ℕ) (i : ℕ) where
   pub node-none : Sound R t i → refusalAt R t i ≡ none
   unfolding refusalAt nodeRefusal
-  node-none s = rw (s .kind) (places-none (R .numbers) (shapeOf R (kindAt t i)) i (leftAt t i) (rightAt t i) _ _ (s .left) (s .right))
+  node-none s = rw (s .kind) (places-none R (shapeOf R (kindAt t i)) i (leftAt t i) (rightAt t i) _ _ (s .left) (s .right))
 
   pub node-sound : refusalAt R t i ≡ none → Sound R t i
   unfolding refusalAt nodeRefusal
   node-sound e =
       let a = unless-none (known R (kindAt t i)) _ _ e in
-      let f = places-fit (R .numbers) (shapeOf R (kindAt t i)) i (leftAt t i) (rightAt t i) _ _ (a .1) in
+      let f = places-fit R (shapeOf R (kindAt t i)) i (leftAt t i) (rightAt t i) _ _ (a .1) in
       record { kind = a .0; left = f .0; right = f .1 }
 
--- Node i as the code reads it: a and b are the kinds of what its places name.
-pub read-node : (R : Rules) (t : List ℕ) (i : ℕ) {k l r a b : ℕ} → k ≡ kindAt t i → l ≡ leftAt t i → r ≡ rightAt t i → a ≡ kindAt t l → b ≡ kindAt t r
-    → nodeRefusal R i (node k l r) (ltb a (R .booleans)) (ltb b (R .booleans)) ≡ refusalAt R t i
+-- Node i as the code reads it: a and b tell the kinds of what its places name.
+pub read-node : (R : Rules) (t : List ℕ) (i : ℕ) {k l r : ℕ} {a b : Bool} → k ≡ kindAt t i → l ≡ leftAt t i → r ≡ rightAt t i → a ≡ isBoolean R t l → b ≡ isBoolean R t r
+    → nodeRefusal R i (node k l r) a b ≡ refusalAt R t i
 unfolding refusalAt
 read-node R t i ek el er ea eb = rw (ea, eb, ek, el, er)
 
 -- All tests of both places at once, as the loop makes them.
 module _ (R : Rules) (t : List ℕ) (i : ℕ) where
-  abbrev Fast : Bool
+  abbrev pub Fast : Bool
   Fast =
       let h = shapeOf R (kindAt t i) in
-      allFit (h .0) (leftAt t i) i (isBoolean R t (leftAt t i)) && allFit (h .1) (rightAt t i) i (isBoolean R t (rightAt t i))
+      allFit R (h .0) (leftAt t i) i (isBoolean R t (leftAt t i)) && allFit R (h .1) (rightAt t i) i (isBoolean R t (rightAt t i))
 
-  pub fast-none : known R (kindAt t i) ≡ true → Fast ≡ true → refusalAt R t i ≡ none
+  pub fast-none : kindAt t i < length (R .kinds) → Fast ≡ true → refusalAt R t i ≡ none
   fast-none k f =
       let h = shapeOf R (kindAt t i) in
-      let c = both-true (allFit (h .0) (leftAt t i) i (isBoolean R t (leftAt t i))) _ f in
-      node-none R t i record { kind = k; left = all-fits _ _ _ _ (c .0); right = all-fits _ _ _ _ (c .1) }
+      let c = both-true (allFit R (h .0) (leftAt t i) i (isBoolean R t (leftAt t i))) _ f in
+      node-none R t i record { kind = lt-ltb _ _ k; left = all-fits _ _ _ _ _ (c .0); right = all-fits _ _ _ _ _ (c .1) }
 
   pub fast-some : Fast ≡ false → refusalAt R t i ≡ none → ⊥
   fast-some f e =
       let s = node-sound R t i e in
-      let g : Fast ≡ true = rw (fits-all _ _ _ _ (s .left), fits-all _ _ _ _ (s .right)) in
+      let g : Fast ≡ true = rw (fits-all _ _ _ _ _ (s .left), fits-all _ _ _ _ _ (s .right)) in
       not-both Fast g f
 
-pub unknown-some : (R : Rules) (t : List ℕ) (i : ℕ) → known R (kindAt t i) ≡ false → refusalAt R t i ≡ none → ⊥
-unknown-some R t i k e = not-both (known R (kindAt t i)) (node-sound R t i e .kind) k
+  pub unknown-some : length (R .kinds) ≤ kindAt t i → refusalAt R t i ≡ none → ⊥
+  unknown-some k e = not-both (known R (kindAt t i)) (node-sound R t i e .kind) (le-ltb _ _ k)
 
 -- ── The lowest refusal ──
 
@@ -339,6 +228,10 @@ module _ (f : ℕ → Option Refusal) where
         | yes l ↦ none-below n i l (d .0)
         | no l ↦ let z : n ≡ i = omega arith in subst (λ (m : ℕ). f m ≡ none) z (d .1)
       ]
+
+  pub none-refused : (n : ℕ) → ((i : ℕ) → i < n → f i ≡ none) → lowest f n ≡ none
+  none-refused zero h = lowest-zero
+  none-refused (suc n) h = rw (sym (add-one n)) (lowest-next n (none-refused n (λ i l. h i (omega arith))) (h n (omega arith)))
 
 -- ── The whole table ──
 
@@ -387,16 +280,16 @@ module _ (R : Rules) (t : List ℕ) where
     table-sound i h = node-sound R t i (none-below (refusalAt R t) (count t) i h (parts .1))
 
     -- For callers: node i of a table that is not refused. At a kind's own number the places compute: with q : kindAt t i ≡ 3,
-    -- `right-fits pslRules t e i h 3 q .low` says that the right operand is below i, and `fit-sort` of it, at `refl`, that it is a Boolean.
+    -- `right-fits pslRules t e i h 3 q .low` says that the right operand is below i, and `sort-is` of its `.sort` that it is a Boolean.
     module _ (i : ℕ) (h : i < count t) where
-      pub kind-in : kindAt t i < R .kinds
-      kind-in = known-kind R (kindAt t i) (table-sound i h .kind)
+      pub kind-in : kindAt t i < length (R .kinds)
+      kind-in = ltb-true (kindAt t i) (length (R .kinds)) (table-sound i h .kind)
 
-      pub left-fits : (k : ℕ) → kindAt t i ≡ k → Fits (shapeOf R k .0) (leftAt t i) i (isBoolean R t (leftAt t i))
-      left-fits k q = subst (λ (m : ℕ). Fits (shapeOf R m .0) (leftAt t i) i (isBoolean R t (leftAt t i))) q (table-sound i h .left)
+      pub left-fits : (k : ℕ) → kindAt t i ≡ k → Fits R (shapeOf R k .0) (leftAt t i) i (isBoolean R t (leftAt t i))
+      left-fits k q = subst (λ (m : ℕ). Fits R (shapeOf R m .0) (leftAt t i) i (isBoolean R t (leftAt t i))) q (table-sound i h .left)
 
-      pub right-fits : (k : ℕ) → kindAt t i ≡ k → Fits (shapeOf R k .1) (rightAt t i) i (isBoolean R t (rightAt t i))
-      right-fits k q = subst (λ (m : ℕ). Fits (shapeOf R m .1) (rightAt t i) i (isBoolean R t (rightAt t i))) q (table-sound i h .right)
+      pub right-fits : (k : ℕ) → kindAt t i ≡ k → Fits R (shapeOf R k .1) (rightAt t i) i (isBoolean R t (rightAt t i))
+      right-fits k q = subst (λ (m : ℕ). Fits R (shapeOf R m .1) (rightAt t i) i (isBoolean R t (rightAt t i))) q (table-sound i h .right)
 
       pub node-in : 3 * (i + 1) ≤ length t
       node-in = omega arith

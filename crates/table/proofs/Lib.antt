@@ -1,5 +1,6 @@
 pub mod NodeLaw
 pub mod CheckLaw
+pub mod PlaceLaw
+pub mod PassesLaw
 pub mod KindLaw
 pub mod ValueLaw
-pub mod SumLaw

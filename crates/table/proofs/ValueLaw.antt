@@ -5,23 +5,21 @@ use mathlib.Core.Bool.{true}
 use mathlib.Core.List.{List, []}
 use mathlib.Core.Option.{none}
 use native.Mathlib.Omega.{arith}
-use lib.ListN.{take}
-use Rattle.table.specs.declared.Place.{Place}
-use Rattle.table.specs.declared.Rules.{Rules}
+use lib.ListN.{length, take}
 use Rattle.table.specs.Node.{Node, node, nodesOf, count, kindAt, leftAt, rightAt, nodeAt, look, grow, root, valueAt}
-use Rattle.table.specs.Check.{shapeOf, tableRefusal}
+use Rattle.table.specs.Check.{Use, Rules, isOperand, shapeOf, tableRefusal}
 use Rattle.table.proofs.NodeLaw.{length-grow, length-nodes, node-at, look-take, value-node}
 use Rattle.table.proofs.CheckLaw.{table-sound, kind-in, fit-below}
 
 -- ── Values ──
 
 -- Two values agree where a place names an operand.
-abbrev pub Same : {A : Type 0} → Place → (ℕ → A) → (ℕ → A) → ℕ → Type 0
-Same p x y n = p .operand ≡ true → x n ≡ y n
+abbrev pub Same : {A : Type 0} → Use → (ℕ → A) → (ℕ → A) → ℕ → Type 0
+Same u x y n = isOperand u ≡ true → x n ≡ y n
 
 -- A node's value is made of its operands' alone.
 abbrev pub Local : {A : Type 0} → Rules → ((ℕ → A) → Node → A) → Type 0
-Local {A} R make = (x y : ℕ → A) (l r k : ℕ) → k < R .kinds → Same (shapeOf R k .0) x y l → Same (shapeOf R k .1) x y r → make x (node k l r) ≡ make y (node k l r)
+Local {A} R make = (x y : ℕ → A) (l r k : ℕ) → k < length (R .kinds) → Same (shapeOf R k .0) x y l → Same (shapeOf R k .1) x y r → make x (node k l r) ≡ make y (node k l r)
 
 module _ {A : Type 0} (d : A) (make : (ℕ → A) → Node → A) (t : List ℕ) where
   pub root-value : root d make t ≡ valueAt d make t (count t - 1)

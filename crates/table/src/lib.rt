@@ -2,14 +2,15 @@
 use logic::SIGNALS;
 use trace::Refusal;
 ghost use mathlib.Core.Path.{_≡_};
-ghost use mathlib.Core.Bool.{true, false, cond, _&&_};
+ghost use mathlib.Core.Bool.{_&&_};
 ghost use mathlib.Core.Option.{Option};
 ghost use Prim.Native.Nat.{_<_};
 ghost use lib.ListN.{getD};
 ghost use Rattle.trace.specs.declared.Refusal.{Refusal};
 ghost use Rattle.table.specs.Node.{node};
 ghost use Rattle.table.specs.Answer.{refused, checked};
-ghost use Rattle.table.specs.Check.{lengthFits, unusedFits, signalFits, operandFits, sortFits, lowFits, masked, unless, placesRefusal, nodeRefusal, refusalAt};
+ghost use Rattle.table.specs.Check.{Use, Rules as TableRules, lengthFits, unusedFits, signalFits, operandFits, sortFits, unless, placesRefusal, nodeRefusal, refusalAt};
+ghost use Rattle.table.specs.Inner.Place.{coded, codedShape, codedNumbers, bound, lowFits, Numbered, Codes};
 
 // The number of a node, counted from 0 along a table: never a point of time.
 pub struct NodeNo(pub u16);
@@ -21,7 +22,8 @@ pub const KINDS: u16 = 11;
 const ONES: u16 = 65535;
 
 // What a place of a node holds: the number of an operand, Boolean or not, or else a number below the limit. Data and not an enum, so that
-// the test of a node takes no branch on its kind; the mask, all ones for an operand, is there for the same reason.
+// the test of a node takes no branch on its kind; the mask, all ones for an operand, is there for the same reason. What is promised of a place
+// is promised of the four that follow.
 pub struct Place {
     pub mask: u16,
     pub limit: u16,
@@ -63,7 +65,7 @@ pub struct Shape(pub Place, pub Place);
 // The shape of a number that is no kind.
 pub const SPARE: Shape = Shape(UNUSED, UNUSED);
 
-// The numbers of the refusals, each by what is wrong.
+// The numbers of the refusals, each by what is wrong. Where there are no sorts, that refusal has the number 0, and the test is left out.
 pub struct Numbers {
     pub length: u8,
     pub kind: u8,
@@ -95,32 +97,32 @@ pub fn length_fits(most: u16, n: usize) -> bool
 }
 
 fn unused_fits(p: Place, n: u16) -> bool
-    ensures { λ r. ⌜ r ≡ unusedFits p n ⌝ }
+    ensures { λ r. ⌜ ((u : Use) → p ≡ coded u → r ≡ unusedFits u n) ⌝ }
 {
-    p.operand | (p.limit != 1) | (n == 0)
+    (p.limit != 1) | (n == 0)
 }
 
 fn signal_fits(p: Place, n: u16) -> bool
-    ensures { λ r. ⌜ r ≡ signalFits p n ⌝ }
+    ensures { λ r. ⌜ ((u : Use) → p ≡ coded u → r ≡ signalFits u n) ⌝ }
 {
-    p.operand | (n < p.limit)
+    (p.limit != SIGNALS) | (n < SIGNALS)
 }
 
 fn operand_fits(p: Place, n: u16, i: u16) -> bool
-    ensures { λ r. ⌜ r ≡ operandFits p n i ⌝ }
+    ensures { λ r. ⌜ ((u : Use) → p ≡ coded u → r ≡ operandFits u n i) ⌝ }
 {
     !p.operand | (n < i)
 }
 
 pub fn sort_fits(p: Place, b: bool) -> bool
-    ensures { λ r. ⌜ r ≡ sortFits p b ⌝ }
+    ensures { λ r. ⌜ ((u : Use) → p ≡ coded u → r ≡ sortFits u b) ⌝ }
 {
     !p.operand | (b == p.boolean)
 }
 
-// What a place of node i holds is below this, if its mask is right.
+// What a place of node i holds is below this.
 fn bound(p: Place, i: u16) -> u16
-    ensures { λ r. ⌜ (masked p ≡ true → r ≡ cond (p .operand) i (p .limit)) ⌝ }
+    ensures { λ r. ⌜ ((u : Use) → p ≡ coded u → r ≡ bound u i) ⌝ }
 {
     (i & p.mask) | p.limit
 }
@@ -132,9 +134,9 @@ fn number_at(t: &[u16], at: usize) -> u16
     if at < t.len() { t[at] } else { 0 }
 }
 
-// Both places of node i are low enough, if their masks are right. There is no branch on what they hold.
+// Both places of node i are low enough. There is no branch on what they hold.
 pub fn places_low(h: Shape, i: u16, l: u16, r: u16) -> bool
-    ensures { λ x. ⌜ (masked (h .0) ≡ true → masked (h .1) ≡ true → x ≡ (lowFits (h .0) l i && lowFits (h .1) r i)) ⌝ }
+    ensures { λ x. ⌜ ((u : Use × Use) → h ≡ codedShape u → x ≡ (lowFits (u .0) l i && lowFits (u .1) r i)) ⌝ }
 {
     let p = h.0;
     let q = h.1;
@@ -154,7 +156,7 @@ fn unless(passed: bool, number: u8, later: Checked) -> Checked
 
 // The places of node i, its operands being Booleans if lb and rb.
 fn check_places(x: Numbers, h: Shape, i: u16, l: u16, r: u16, lb: bool, rb: bool) -> Checked
-    ensures { λ a. ⌜ a ≡ checked (placesRefusal x h i l r lb rb) ⌝ }
+    ensures { λ a. ⌜ ((R : TableRules) (u : Use × Use) → Numbered (R .sorts) → x ≡ codedNumbers R → h ≡ codedShape u → a ≡ checked (placesRefusal R u i l r lb rb)) ⌝ }
 {
     let p = h.0;
     let q = h.1;
@@ -168,7 +170,7 @@ fn check_places(x: Numbers, h: Shape, i: u16, l: u16, r: u16, lb: bool, rb: bool
                 operand_fits(p, l, i) & operand_fits(q, r, i),
                 x.operand,
                 unless(
-                    sort_fits(p, lb) & sort_fits(q, rb),
+                    (x.sort == 0) | (sort_fits(p, lb) & sort_fits(q, rb)),
                     x.sort,
                     Checked::Accepted,
                 ),
@@ -179,7 +181,7 @@ fn check_places(x: Numbers, h: Shape, i: u16, l: u16, r: u16, lb: bool, rb: bool
 
 // Node i, its operands being Booleans if lb and rb.
 pub fn check_node(rules: Rules, i: NodeNo, k: u16, l: u16, r: u16, lb: bool, rb: bool) -> Checked
-    ensures { λ a. ⌜ a ≡ checked (nodeRefusal rules (i .0) (node k l r) lb rb) ⌝ }
+    ensures { λ a. ⌜ ((R : TableRules) → Codes rules R → a ≡ checked (nodeRefusal R (i .0) (node k l r) lb rb)) ⌝ }
 {
     let x = rules.numbers;
     if !((k < rules.kinds) & (k < KINDS)) {
@@ -192,7 +194,7 @@ pub fn check_node(rules: Rules, i: NodeNo, k: u16, l: u16, r: u16, lb: bool, rb:
 
 // The answer for node i of a table, whatever the table is.
 pub fn refused_at(rules: Rules, t: &[u16], i: NodeNo) -> Checked
-    ensures { λ x. ⌜ x ≡ checked (refusalAt rules (now (t .entry)) (i .0)) ⌝ }
+    ensures { λ x. ⌜ ((R : TableRules) → Codes rules R → x ≡ checked (refusalAt R (now (t .entry)) (i .0))) ⌝ }
 {
     let at = 3 * (i.0 as usize);
     let l = number_at(t, at + 1);

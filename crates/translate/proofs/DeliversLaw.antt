@@ -12,11 +12,11 @@ use borrow.Author.Tests.{le-leb, lt-leb, leb-true}
 use Rattle.trace.specs.declared.Refusal.{Refusal}
 use Rattle.table.specs.Answer.{refused}
 use Rattle.table.specs.Node.{node, _▸_, count, kindAt}
-use Rattle.table.specs.Check.{unless, orElse, total}
+use Rattle.table.specs.Check.{unless, orElse}
 use Rattle.logic.specs.Formula.{Formula}
 use Rattle.psl.specs.Size.{weigh}
 use Rattle.psl.specs.Table.{formulaOf}
-use Rattle.psl.specs.Check.{pslRefusal}
+use Rattle.psl.specs.Check.{pslRefusal, total}
 use Rattle.psl.specs.Parts.{formulaAt}
 use Rattle.psl.proofs.PartLaw.{part-root}
 use Rattle.psl.proofs.TreeLaw.{tree-weight, tree-nodes}

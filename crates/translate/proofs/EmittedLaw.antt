@@ -1,20 +1,17 @@
 -- The emitted table passes the LTL check: each node's operands come before it, and its signals are the formula's.
-use mathlib.Core.Path.{_≡_, refl, ap, sym, subst, _∙_}
-use mathlib.Core.Bool.{Bool, true, false}
+use mathlib.Core.Path.{_≡_, refl, sym, subst}
+use mathlib.Core.Bool.{Bool, false}
 use mathlib.Core.List.{List, [], _∷_}
 use mathlib.Core.Option.{none}
-use Prim.Native.Nat.{ℕ, zero, suc, _-_, _/_, _%_, _<_, _≤_}
+use Prim.Native.Nat.{ℕ, zero, suc, _-_, _<_, _≤_}
 use native.Mathlib.Omega.{arith}
-use native.Mathlib.Decide.{decLt}
-use native.Mathlib.Numerals.{add-one}
-use borrow.Author.Tests.{eq-eqb, lt-ltb, le-ltb, le-leb}
-use lib.ListN.{length, getD, List·getD-append}
-use lib.Seq.{getD-at}
+use lib.ListN.{length}
 use Rattle.logic.specs.Letter.{signals}
-use Rattle.table.specs.Node.{Node, node, numbersOf, count, kindAt, leftAt, rightAt, _▸_, last}
-use Rattle.table.specs.Check.{operand, unused, signal, shapeOf, isBoolean, lengthFits, lowest, tableRefusal, refusalAt}
-use Rattle.table.proofs.NodeLaw.{nodes-numbers, length-numbers, length-more, node-at}
-use Rattle.table.proofs.CheckLaw.{Fits, Sound, node-none, lowest-zero, lowest-next, refused-none, table-sound, kind-in}
+use Rattle.table.specs.Node.{Node, node, count, kindAt, leftAt, rightAt, _▸_, last}
+use Rattle.table.specs.Check.{operand, unused, signal, shapeOf, tableRefusal}
+use Rattle.table.proofs.NodeLaw.{length-more}
+use Rattle.table.proofs.CheckLaw.{Fits, table-sound, kind-in}
+use Rattle.table.proofs.PassesLaw.{PassFrom, pass-none, pass-more, nodes-pass}
 use Rattle.table.proofs.KindLaw.{_⨾_, each}
 use Rattle.logic.specs.Formula.{BoolExpr, btrue, var, bnot, band, Formula, weak, strong, fnot, fand, next, until, abort}
 use Rattle.psl.specs.Table.{Part, boolean, formula, asBoolean, asFormula, partOf, formulaOf}
@@ -59,11 +56,11 @@ formula-low (boolean b) h = tt
 formula-low (formula f) h = h
 
 -- A node of an accepted table, kind by kind.
-part-low : (x : ℕ → Part) (i l r : ℕ) (b c : Bool) (k : ℕ) → k < 11 → Fits (shapeOf pslRules k .0) l i b → Fits (shapeOf pslRules k .1) r i c
+part-low : (x : ℕ → Part) (i l r : ℕ) (b c : Bool) (k : ℕ) → k < 11 → Fits pslRules (shapeOf pslRules k .0) l i b → Fits pslRules (shapeOf pslRules k .1) r i c
     → ((j : ℕ) → j < i → LowPart (x j)) → LowPart (partOf x (node k l r))
 unfolding partOf
 part-low x i l r b c =
-    each (λ k. Fits (shapeOf pslRules k .0) l i b → Fits (shapeOf pslRules k .1) r i c → ((j : ℕ) → j < i → LowPart (x j)) → LowPart (partOf x (node k l r))) 11
+    each (λ k. Fits pslRules (shapeOf pslRules k .0) l i b → Fits pslRules (shapeOf pslRules k .1) r i c → ((j : ℕ) → j < i → LowPart (x j)) → LowPart (partOf x (node k l r))) 11
     ((λ f g y. tt)
     ⨾ (λ f g y. f .low)
     ⨾ (λ f g y. boolean-low (x l) (y l (f .low)))
@@ -92,36 +89,17 @@ signals-low t e =
 
 -- ── Nodes that pass ──
 
-abbrev nodeOf : List Node → ℕ → Node
-nodeOf ns i = getD ns i (node 0 0 0)
+abbrev Fine : List Node → Type 0
+Fine ns = PassFrom ltlRules 0 ns
 
--- Node i passes the tests of the check.
-abbrev Passes : ℕ → Node → Type 0
-Passes i (node k l r) = (k < 7) × Fits (shapeOf ltlRules k .0) l i false × Fits (shapeOf ltlRules k .1) r i false
-
-record Fine (ns : List Node) : Type 0 where
-  passes : (i : ℕ) → i < length ns → Passes i (nodeOf ns i)
-
-fine-more : (ns : List Node) (x : Node) → Fine ns → Passes (length ns) x → Fine (ns ▸ x)
-fine-more ns x f p = record { passes = passes }
-  where
-    passes : (i : ℕ) → i < length (ns ▸ x) → Passes i (nodeOf (ns ▸ x) i)
-    passes i h =
-        elim (decLt i (length ns)) [
-          | yes d ↦ subst (Passes i) (sym (List·getD-append ns (x ∷ []) (node 0 0 0) i d)) (f .passes i d)
-          | no d ↦
-              let z : length ns ≡ i = omega (arith, length-more ns x) in
-              subst (λ (n : ℕ). Passes n (nodeOf (ns ▸ x) n)) z (subst (Passes (length ns)) (sym (getD-at ns x [] (node 0 0 0) (length ns) refl)) p)
-        ]
-
--- A place of each sort.
-named : {n i : ℕ} → n < i → Fits (operand false) n i false
+-- A place for each use.
+named : {n i : ℕ} {b : Bool} → n < i → Fits ltlRules (operand false) n i b
 named h = record { low = h; sort = refl }
 
-blank : {i : ℕ} → Fits unused 0 i false
+blank : {i : ℕ} {b : Bool} → Fits ltlRules unused 0 i b
 blank = record { low = omega arith; sort = refl }
 
-small : {k i : ℕ} → k < signals → Fits signal k i false
+small : {k i : ℕ} {b : Bool} → k < signals → Fits ltlRules signal k i b
 small h = record { low = h; sort = refl }
 
 -- ── The walk ──
@@ -134,13 +112,13 @@ lastF f a r ns = omega (arith, length-walk f a r ns, weight-pos f)
 
 fineB : (b : BoolExpr) → LowB b → (ns : List Node) → Fine ns → Fine (walkB b ns)
 unfolding walkB
-fineB btrue h ns f = fine-more ns trueN f (omega arith, blank, blank)
-fineB (var k) h ns f = fine-more ns (varN k) f (omega arith, small h, blank)
-fineB (bnot b) h ns f = fine-more (walkB b ns) (notN (last (walkB b ns))) (fineB b h ns f) (omega arith, named (lastB b ns), blank)
+fineB btrue h ns f = pass-more ltlRules trueN f (omega arith, blank, blank)
+fineB (var k) h ns f = pass-more ltlRules (varN k) f (omega arith, small h, blank)
+fineB (bnot b) h ns f = pass-more ltlRules (notN (last (walkB b ns))) (fineB b h ns f) (omega arith, named (lastB b ns), blank)
 fineB (band b c) (h, g) ns f =
     let ms = walkB b ns in
     let ps = walkB c ms in
-    fine-more ps (andN (last ms) (last ps)) (fineB c g ms (fineB b h ns f)) (omega arith, named (omega (arith, lastB b ns, length-walkB c ms)), named (lastB c ms))
+    pass-more ltlRules (andN (last ms) (last ps)) (fineB c g ms (fineB b h ns f)) (omega arith, named (omega (arith, lastB b ns, length-walkB c ms)), named (lastB c ms))
 
 fine-gate : (x a r : ℕ) (ns : List Node) → x < length ns → a < length ns → r < length ns → Fine ns → Fine (gate x a r ns)
 fine-gate x a r ns hx ha hr f =
@@ -148,9 +126,9 @@ fine-gate x a r ns hx ha hr f =
     let ps = ms ▸ andN x (last ms) in
     let m = length-more ns (notN r) in
     let p = length-more ms (andN x (last ms)) in
-    let fm = fine-more ns (notN r) f (omega arith, named hr, blank) in
-    let fp = fine-more ms (andN x (last ms)) fm (omega arith, named (omega arith), named (omega arith)) in
-    fine-more ps (orN a (last ps)) fp (omega arith, named (omega arith), named (omega arith))
+    let fm = pass-more ltlRules (notN r) f (omega arith, named hr, blank) in
+    let fp = pass-more ltlRules (andN x (last ms)) fm (omega arith, named (omega arith), named (omega arith)) in
+    pass-more ltlRules (orN a (last ps)) fp (omega arith, named (omega arith), named (omega arith))
 
 fine-literal : (b : BoolExpr) → LowB b → (a r : ℕ) (ns : List Node) → a < length ns → r < length ns → Fine ns → Fine (literal b a r ns)
 fine-literal b h a r ns ha hr f =
@@ -163,20 +141,20 @@ fineF (weak b) h a r ns ha hr f = fine-literal b h a r ns ha hr f
 fineF (strong b) h a r ns ha hr f = fine-literal b h a r ns ha hr f
 fineF (fnot g) h a r ns ha hr f =
     let ms = walk g r a ns in
-    fine-more ms (notN (last ms)) (fineF g h r a ns hr ha f) (omega arith, named (lastF g r a ns), blank)
+    pass-more ltlRules (notN (last ms)) (fineF g h r a ns hr ha f) (omega arith, named (lastF g r a ns), blank)
 fineF (fand g k) (h, i) a r ns ha hr f =
     let ms = walk g a r ns in
     let ps = walk k a r ms in
     let m = length-walk g a r ns in
     let p = length-walk k a r ms in
-    fine-more ps (andN (last ms) (last ps)) (fineF k i a r ms (omega arith) (omega arith) (fineF g h a r ns ha hr f))
+    pass-more ltlRules (andN (last ms) (last ps)) (fineF k i a r ms (omega arith) (omega arith) (fineF g h a r ns ha hr f))
     (omega arith, named (omega (arith, lastF g a r ns)), named (lastF k a r ms))
 fineF (until g k) (h, i) a r ns ha hr f =
     let ms = walk g a r ns in
     let ps = walk k a r ms in
     let m = length-walk g a r ns in
     let p = length-walk k a r ms in
-    fine-more ps (untilN (last ms) (last ps)) (fineF k i a r ms (omega arith) (omega arith) (fineF g h a r ns ha hr f))
+    pass-more ltlRules (untilN (last ms) (last ps)) (fineF k i a r ms (omega arith) (omega arith) (fineF g h a r ns ha hr f))
     (omega arith, named (omega (arith, lastF g a r ns)), named (lastF k a r ms))
 fineF (next g) h a r ns ha hr f =
     let ms = walk g a r ns in
@@ -184,7 +162,7 @@ fineF (next g) h a r ns ha hr f =
     let m = length-walk g a r ns in
     let p = length-more ms (nextN (last ms)) in
     fine-gate (last ps) a r ps (omega arith) (omega arith) (omega arith)
-    (fine-more ms (nextN (last ms)) (fineF g h a r ns ha hr f) (omega arith, named (lastF g a r ns), blank))
+    (pass-more ltlRules (nextN (last ms)) (fineF g h a r ns ha hr f) (omega arith, named (lastF g a r ns), blank))
 fineF (abort g b) (h, i) a r ns ha hr f =
     let ms = literal b a r ns in
     let m = length-walkB b ns in
@@ -193,45 +171,12 @@ fineF (abort g b) (h, i) a r ns ha hr f =
 
 -- ── The table ──
 
-fine-table : (ns : List Node) → Fine ns → 0 < length ns → length ns ≤ 4096 → ltlRefusal (numbersOf ns) ≡ none
-fine-table ns f some few = refused-none ltlRules (numbersOf ns) fits (length ns) counted (all (length ns) (omega arith))
-  where
-    counted : length ns ≡ count (numbersOf ns)
-    counted = omega (arith, length-numbers ns)
-
-    fits : lengthFits 4096 (length (numbersOf ns)) ≡ true
-    fits =
-        rw (
-          eq-eqb (length (numbersOf ns) % 3) 0 (omega (arith, length-numbers ns)),
-          lt-ltb 0 (length (numbersOf ns) / 3) (omega (arith, length-numbers ns)),
-          le-leb (length (numbersOf ns) / 3) 4096 (omega (arith, length-numbers ns)),
-        ) refl
-
-    no-boolean : (j : ℕ) → isBoolean ltlRules (numbersOf ns) j ≡ false
-    no-boolean j = le-ltb (kindAt (numbersOf ns) j) 0 (omega arith)
-
-    sound : (i : ℕ) → i < length ns → Sound ltlRules (numbersOf ns) i
-    sound i h =
-        let at = ap (λ (ms : List Node). nodeOf ms i) (sym (nodes-numbers ns)) ∙ node-at (numbersOf ns) i (omega (arith, length-numbers ns)) in
-        let (low, left, right) = subst (Passes i) at (f .passes i h) in
-        record {
-          kind = rw (lt-ltb (kindAt (numbersOf ns) i) 7 low, lt-ltb (kindAt (numbersOf ns) i) 11 (omega (arith, low))) refl;
-          left = subst (Fits (shapeOf ltlRules (kindAt (numbersOf ns) i) .0) (leftAt (numbersOf ns) i) i) (sym (no-boolean (leftAt (numbersOf ns) i))) left;
-          right = subst (Fits (shapeOf ltlRules (kindAt (numbersOf ns) i) .1) (rightAt (numbersOf ns) i) i) (sym (no-boolean (rightAt (numbersOf ns) i))) right;
-        }
-
-    all : (n : ℕ) → n ≤ length ns → lowest (refusalAt ltlRules (numbersOf ns)) n ≡ none
-    all zero h = lowest-zero (refusalAt ltlRules (numbersOf ns))
-    all (suc n) h =
-        subst (λ (m : ℕ). lowest (refusalAt ltlRules (numbersOf ns)) m ≡ none) (add-one n)
-        (lowest-next (refusalAt ltlRules (numbersOf ns)) n (all n (omega arith)) (node-none ltlRules (numbersOf ns) n (sound n (omega arith))))
-
 pub emitted-accepted : (t : List ℕ) → pslRefusal t ≡ none → emittedSize (formulaOf t) ≤ 4096 → ltlRefusal (emitted (formulaOf t)) ≡ none
 unfolding emitted
 emitted-accepted t e few =
     let f = formulaOf t in
     let n = length-walk f 1 1 (trueN ∷ notN 0 ∷ []) in
-    fine-table (emittedNodes f) (fineF f (signals-low t e) 1 1 (trueN ∷ notN 0 ∷ []) (omega arith) (omega arith) start) (omega arith) (omega arith)
+    nodes-pass ltlRules (emittedNodes f) (fineF f (signals-low t e) 1 1 (trueN ∷ notN 0 ∷ []) (omega arith) (omega arith) start) (omega arith) (omega arith)
   where
     start : Fine (trueN ∷ notN 0 ∷ [])
-    start = fine-more (trueN ∷ []) (notN 0) (fine-more [] trueN (record { passes = λ i h. absurd (omega arith) }) (omega arith, blank, blank)) (omega arith, named (omega arith), blank)
+    start = pass-more ltlRules (notN 0) (pass-more ltlRules trueN (pass-none ltlRules) (omega arith, blank, blank)) (omega arith, named (omega arith), blank)

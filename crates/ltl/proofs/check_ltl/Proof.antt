@@ -9,6 +9,7 @@ use Rattle.table.specs.Check.{lengthFits}
 use Rattle.table.specs.Answer.{checked}
 use Rattle.table.proofs.CheckLaw.{sized, refused-length, refused-node, refused-none}
 use Rattle.ltl.specs.Check.{ltlRules}
+use Rattle.ltl.proofs.CheckLaw.{rules-coded}
 use Rattle.ltl.proofs.check_ltl.Statement.{statement}
 use Rattle.ltl.proofs.check_ltl.Tie as tie
 
@@ -48,7 +49,7 @@ returns-3 c =
     let f = c .before .before in
     let e = f .before in
     let F = f .first-refused .ensures in
-    refused-node ltlRules (e .before .before .before .args .t .now) (right-length e) (f .first-refused .result) (c .refused-at .result) (omega arith) (F .passed) (F .stopped (omega arith)) (c .refused-at .ensures)
+    refused-node ltlRules (e .before .before .before .args .t .now) (right-length e) (f .first-refused .result) (c .refused-at .result) (omega arith) (F .passed) (F .stopped (omega arith)) (c .refused-at .ensures ltlRules rules-coded)
 
 pub check-ltl-spec : {M : Type 1} → statement M
 check-ltl-spec =

@@ -6,10 +6,11 @@ use mathlib.Core.Option.{none}
 use native.Mathlib.Omega.{arith}
 use borrow.Author.Tests.{not-true, not-false}
 use Rattle.table.specs.Node.{count, kindAt}
-use Rattle.table.specs.Check.{mostKinds, refusalAt, lowest}
-use Rattle.table.proofs.CheckLaw.{left-masked, right-masked, kind-unknown, unknown-some, lowest-zero, lowest-next}
+use Rattle.table.specs.Check.{shapeOf, refusalAt, lowest}
+use Rattle.table.proofs.CheckLaw.{Fast, fast-none, fast-some, unknown-some, lowest-zero, lowest-next}
+use Rattle.table.proofs.PlaceLaw.{shape-coded}
 use Rattle.ltl.specs.Check.{ltlRules}
-use Rattle.ltl.proofs.CheckLaw.{rules-made, Low, low-none, low-some}
+use Rattle.ltl.proofs.CheckLaw.{rules-coded}
 use Rattle.ltl.proofs.first_refused.Statement.{statement}
 use Rattle.ltl.proofs.first_refused.Tie as tie
 
@@ -23,13 +24,13 @@ abbrev μ-loop : tie.MeasureT-loop
 low-kind : (u : tie.Else1 Inv-loop μ-loop) → let lp = u .before .before .before .before .before in kindAt (lp .before .before .args .t .now) (lp .loop .i) < 7
 low-kind u = omega arith
 
--- What the test of its places says.
-low : (p : tie.After-places-low Inv-loop μ-loop) → let lp = p .before .before .before .before .before .before .before in p .places-low .result ≡ Low (lp .before .before .args .t .now) (lp .loop .i)
+-- What the test of its places says: there are no sorts to test.
+low : (p : tie.After-places-low Inv-loop μ-loop) → let lp = p .before .before .before .before .before .before .before in p .places-low .result ≡ Fast ltlRules (lp .before .before .args .t .now) (lp .loop .i)
 low p =
     let u = p .before .before in
     let lp = u .before .before .before .before .before in
-    let h : kindAt (lp .before .before .args .t .now) (lp .loop .i) < mostKinds = omega (arith, low-kind u) in
-    p .places-low .ensures (left-masked rules-made _ h) (right-masked rules-made _ h)
+    let k = kindAt (lp .before .before .args .t .now) (lp .loop .i) in
+    p .places-low .ensures (shapeOf ltlRules k) (shape-coded rules-coded k (low-kind u))
 
 loop-holds : tie.Need-loop-holds Inv-loop μ-loop
 loop-holds c = (omega arith, lowest-zero _)
@@ -71,7 +72,7 @@ returns : tie.Need-returns Inv-loop μ-loop
 returns c =
     let lp = c .before .before .before .before .before in
     let t = lp .before .before .args .t .now in
-    record { passed = lp .loop .inv .1; within = lp .loop .inv .0; stopped = λ _. unknown-some ltlRules t (lp .loop .i) (kind-unknown ltlRules _ (c .if1 .taken)) }
+    record { passed = lp .loop .inv .1; within = lp .loop .inv .0; stopped = λ _. unknown-some ltlRules t (lp .loop .i) (c .if1 .taken) }
 
 cast-at : tie.Need-cast-at Inv-loop μ-loop
 cast-at c = omega (arith, low-kind c)
@@ -93,7 +94,7 @@ returns-2 c =
     let p = c .before in
     let lp = p .before .before .before .before .before .before .before in
     let t = lp .before .before .args .t .now in
-    record { passed = lp .loop .inv .1; within = lp .loop .inv .0; stopped = λ _. low-some t (lp .loop .i) (sym (low p) ∙ not-true _ (c .if2 .taken)) }
+    record { passed = lp .loop .inv .1; within = lp .loop .inv .0; stopped = λ _. fast-some ltlRules t (lp .loop .i) (sym (low p) ∙ not-true _ (c .if2 .taken)) }
 
 add-i : tie.Need-add-i Inv-loop μ-loop
 add-i c = search needs
@@ -107,7 +108,7 @@ loop-again c =
     let u = p .before .before in
     let lp = u .before .before .before .before .before in
     let t = lp .before .before .args .t .now in
-    (omega arith, lowest-next (refusalAt ltlRules t) (lp .loop .i) (lp .loop .inv .1) (low-none t (lp .loop .i) (low-kind u) (sym (low p) ∙ not-false _ (c .if2 .left))))
+    (omega arith, lowest-next (refusalAt ltlRules t) (lp .loop .i) (lp .loop .inv .1) (fast-none ltlRules t (lp .loop .i) (low-kind u) (sym (low p) ∙ not-false _ (c .if2 .left))))
 
 returns-3 : tie.Need-returns-3 Inv-loop μ-loop
 returns-3 c =

@@ -5,14 +5,16 @@ use mathlib.Core.Path.{_≡_, refl, sym, subst, _∙_}
 use mathlib.Core.Option.{none}
 use mathlib.Core.List.{List}
 use native.Mathlib.Omega.{arith}
-use lib.ListN.{length}
+use lib.ListN.{length, getD}
 use borrow.Author.Tests.{not-true, not-false}
 use Rattle.table.specs.Node.{count, kindAt}
-use Rattle.table.specs.Check.{mostKinds, refusalAt}
-use Rattle.table.proofs.CheckLaw.{left-masked, right-masked, kind-known, kind-unknown, fast-none, fast-some, unknown-some, sized}
+use Rattle.table.specs.Check.{Use, shapeOf, refusalAt}
+use Rattle.table.specs.Inner.Place.{codedShape, codedRules, mostKinds}
+use Rattle.table.proofs.CheckLaw.{Fast, fast-none, fast-some, unknown-some, sized}
+use Rattle.table.proofs.PlaceLaw.{noShape, left-coded, right-coded, shape-coded}
 use Rattle.psl.specs.Check.{pslRules}
 use Rattle.psl.specs.Counts.{Tallied}
-use Rattle.psl.proofs.CheckLaw.{rules-made, left-room, right-room, tallied-next}
+use Rattle.psl.proofs.CheckLaw.{rules-coded, left-room, right-room, tallied-next}
 use Rattle.psl.proofs.count_uses.Statement.{statement}
 use Rattle.psl.proofs.count_uses.Tie as tie
 
@@ -32,6 +34,13 @@ table lp = lp .before .before .before .args .t .now
 low-kind : (u : tie.Else1 Inv-loop μ-loop) → kindAt (table (turn u)) (turn u .loop .i) < mostKinds
 low-kind u = omega arith
 
+-- The shape that was read is the kind's.
+abbrev uses : tie.Else1 Inv-loop μ-loop → Use × Use
+uses u = shapeOf pslRules (kindAt (table (turn u)) (turn u .loop .i))
+
+shape : (u : tie.Else1 Inv-loop μ-loop) → getD (codedRules pslRules .shapes) (kindAt (table (turn u)) (turn u .loop .i)) noShape ≡ codedShape (uses u)
+shape u = shape-coded rules-coded _ (low-kind u)
+
 few : (lp : tie.At-loop Inv-loop μ-loop) → count (table lp) ≤ 1024
 few lp = sized pslRules (table lp) (lp .loop .inv .2 .right-length) .low
 
@@ -39,11 +48,15 @@ few lp = sized pslRules (table lp) (lp .loop .inv .2 .right-length) .low
 abbrev read : tie.Else2 Inv-loop μ-loop → tie.Else1 Inv-loop μ-loop
 read e = e .before .before .before
 
+-- What the test of its places says.
+fits : (p : tie.After-places-fit Inv-loop μ-loop) → let lp = turn (p .before .before) in p .places-fit .result ≡ Fast pslRules (table lp) (lp .loop .i)
+fits p = let u = p .before .before in p .places-fit .ensures (uses u) (shape u)
+
 fine : (e : tie.Else2 Inv-loop μ-loop) → let lp = turn (read e) in refusalAt pslRules (table lp) (lp .loop .i) ≡ none
 fine e =
     let u = read e in
     let lp = turn u in
-    fast-none pslRules (table lp) (lp .loop .i) (kind-known rules-made _ (u .if1 .left)) (sym (e .before .places-fit .ensures) ∙ not-false _ (e .if2 .left))
+    fast-none pslRules (table lp) (lp .loop .i) (low-kind u) (sym (fits (e .before)) ∙ not-false _ (e .if2 .left))
 
 inside : (u : tie.Else1 Inv-loop μ-loop) → turn u .loop .i < count (table (turn u))
 inside u = omega arith
@@ -91,7 +104,7 @@ returns : tie.Need-returns Inv-loop μ-loop
 returns c =
     let lp = c .before .before .before .before .before in
     let I = lp .loop .inv in
-    (record { passed = I .2 .passed; within = I .0; stopped = λ _. unknown-some pslRules (table lp) (lp .loop .i) (kind-unknown pslRules _ (c .if1 .taken)) }, I .2)
+    (record { passed = I .2 .passed; within = I .0; stopped = λ _. unknown-some pslRules (table lp) (lp .loop .i) (c .if1 .taken) }, I .2)
 
 cast-at : tie.Need-cast-at Inv-loop μ-loop
 cast-at c = omega (arith, low-kind c)
@@ -108,7 +121,7 @@ cast-places-fit c = let u = c .before in omega (arith, few (turn u), inside u)
 places-fit-requires : tie.Need-places-fit-requires Inv-loop μ-loop
 places-fit-requires c κs =
     let u = c .before in
-    (inside u, left-masked rules-made _ (low-kind u), right-masked rules-made _ (low-kind u))
+    (inside u, (uses u, shape u))
 
 same-length-2 : tie.Need-same-length-2 Inv-loop μ-loop
 same-length-2 c = search needs
@@ -118,7 +131,7 @@ returns-2 c =
     let p = c .before in
     let lp = turn (p .before .before) in
     let I = lp .loop .inv in
-    (record { passed = I .2 .passed; within = I .0; stopped = λ _. fast-some pslRules (table lp) (lp .loop .i) (sym (p .places-fit .ensures) ∙ not-true _ (c .if2 .taken)) }, I .2)
+    (record { passed = I .2 .passed; within = I .0; stopped = λ _. fast-some pslRules (table lp) (lp .loop .i) (sym (fits p) ∙ not-true _ (c .if2 .taken)) }, I .2)
 
 cast-count-place : tie.Need-cast-count-place Inv-loop μ-loop
 cast-count-place c = let u = read (c .before .before) in omega (arith, few (turn u), inside u)
@@ -127,7 +140,7 @@ count-place-requires : tie.Need-count-place-requires Inv-loop μ-loop
 count-place-requires c κs =
     let e = c .before .before .before in
     let u = read e in
-    left-room (turn u .loop .inv .2) (inside u) (fine e)
+    left-room (turn u .loop .inv .2) (inside u) (fine e) _ (left-coded (uses u) (shape u))
 
 cast-count-place-2 : tie.Need-cast-count-place-2 Inv-loop μ-loop
 cast-count-place-2 c = let u = read (c .before .before .before .before .before .before) in omega (arith, few (turn u), inside u)
@@ -137,7 +150,7 @@ count-place-requires-2 c κs =
     let l = c .before .before .before in
     let e = l .before .before .before .before in
     let u = read e in
-    right-room (turn u .loop .inv .2) (inside u) (fine e) _ (l .count-place .ensures)
+    right-room (turn u .loop .inv .2) (inside u) (fine e) _ (l .count-place .ensures (uses u .0) (left-coded (uses u) (shape u))) _ (right-coded (uses u) (shape u))
 
 add-i : tie.Need-add-i Inv-loop μ-loop
 add-i c = search needs
@@ -152,8 +165,8 @@ loop-again c =
     let e = l .before .before .before .before in
     let u = read e in
     let I = turn u .loop .inv in
-    let L = l .count-place .ensures in
-    let R = r .count-place2 .ensures in
+    let L = l .count-place .ensures (uses u .0) (left-coded (uses u) (shape u)) in
+    let R = r .count-place2 .ensures (uses u .1) (right-coded (uses u) (shape u)) in
     (omega arith, R .same ∙ L .same ∙ I .1, tallied-next (I .2) (inside u) (fine e) _ L _ R)
 
 same-length-3 : tie.Need-same-length-3 Inv-loop μ-loop

@@ -1,11 +1,18 @@
 -- `named_fits` reads the kind of the operand, or that of node 0, which does not matter.
 use borrow.Author.Needs.{needs}
-use Rattle.table.proofs.CheckLaw.{named-sort}
+use Prim.Native.Nat.{_<_}
+use native.Mathlib.Omega.{arith}
+use Rattle.table.specs.Node.{count}
+use Rattle.psl.proofs.CheckLaw.{named-sort}
 use Rattle.psl.proofs.named_fits.Statement.{statement}
 use Rattle.psl.proofs.named_fits.Tie as tie
 
+-- The kind is read within the list.
+inside : (n : tie.After-named) → n .named .result < count (n .before .before .args .t .now)
+inside n = let p = n .before .before .pre in rw (n .named .ensures (p .0) (p .1)) (p .2)
+
 named-requires : tie.Need-named-requires
-named-requires c κs = c .before .pre .0
+named-requires c κs = search needs
 
 cast-m : tie.Need-cast-m
 cast-m c = search needs
@@ -17,16 +24,16 @@ mul-sort-fits-2 : tie.Need-mul-sort-fits-2
 mul-sort-fits-2 c = search needs
 
 shared-slice-read-sort-fits : tie.Need-shared-slice-read-sort-fits
-shared-slice-read-sort-fits c = search needs
+shared-slice-read-sort-fits c = omega (arith, inside (c .before))
 
 sort-fits-requires : tie.Need-sort-fits-requires
 sort-fits-requires c κs = search needs
 
 returns : tie.Need-returns
-returns c =
+returns c u e =
     let n = c .before .before in
     let a = n .before .before .args in
-    rw (c .sort-fits .ensures, n .named .ensures) (named-sort (a .p) (a .t .now) (a .n) (a .booleans))
+    rw (c .sort-fits .ensures u e, n .named .ensures u e) (named-sort u (a .t .now) (a .n) (a .booleans))
 
 pub named-fits-spec : {M : Type 1} → statement M
 named-fits-spec =

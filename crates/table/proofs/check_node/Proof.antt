@@ -1,30 +1,31 @@
 -- `check_node` answers for the kind, then for the places.
-use borrow.Author.Tests.{not-true, not-false}
-use Rattle.table.specs.Check.{known, nodeRefusal}
-use Rattle.table.proofs.CheckLaw.{known-low}
+use lib.Dec.{ltb}
+use borrow.Author.Tests.{not-true, not-false, ltb-true}
+use Rattle.table.proofs.CheckLaw.{both-true}
+use Rattle.table.proofs.PlaceLaw.{kind-refused, places-answer}
 use borrow.Author.Needs.{needs}
 use Rattle.table.proofs.check_node.Statement.{statement}
 use Rattle.table.proofs.check_node.Tie as tie
 
 returns : tie.Need-returns
-unfolding nodeRefusal
-returns c = let a = c .before .before .args in rw (not-true (known (a .t1) (a .k)) (c .if1 .taken))
+returns c R C =
+    let a = c .before .before .args in
+    kind-refused C (a .i .0) (a .k) (a .l) (a .r) (a .lb) (a .rb) (not-true _ (c .if1 .taken))
 
 mul-h : tie.Need-mul-h
 mul-h c = search needs
 
 element-copy-out-h : tie.Need-element-copy-out-h
-element-copy-out-h c = let a = c .before .before .args in known-low (a .t1) (a .k) (not-false _ (c .if1 .left))
+element-copy-out-h c = let a = c .before .before .args in ltb-true _ _ (both-true (ltb (a .k) (a .t1 .kinds)) _ (not-false _ (c .if1 .left)) .1)
 
 check-places-requires : tie.Need-check-places-requires
 check-places-requires c κs = search needs
 
 returns-2 : tie.Need-returns-2
-unfolding nodeRefusal
-returns-2 c =
+returns-2 c R C =
     let e = c .before .before in
     let a = e .before .before .args in
-    rw (not-false (known (a .t1) (a .k)) (e .if1 .left)) (c .check-places .ensures)
+    places-answer C (a .i .0) (a .k) (a .l) (a .r) (a .lb) (a .rb) (not-false _ (e .if1 .left)) (c .check-places .result) (c .check-places .ensures)
 
 pub check-node-spec : {M : Type 1} → statement M
 check-node-spec =

@@ -1,7 +1,8 @@
 -- `check_places` answers the first test that fails: the calls of `unless` nest as the definition does.
-use mathlib.Core.Path.{refl}
+use mathlib.Core.Path.{_≡_, refl, ap, _∙_}
 use mathlib.Core.Option.{none}
-use Rattle.table.specs.Check.{placesRefusal}
+use Rattle.table.specs.Answer.{checked}
+use Rattle.table.proofs.PlaceLaw.{left-coded, right-coded, byNumbers, places-coded}
 use borrow.Author.Needs.{needs}
 use Rattle.table.proofs.check_places.Statement.{statement}
 use Rattle.table.proofs.check_places.Tie as tie
@@ -43,30 +44,34 @@ unless-requires-4 : tie.Need-unless-requires-4
 unless-requires-4 c κs = search needs
 
 returns : tie.Need-returns
-unfolding placesRefusal
-returns c =
+returns c R u numbered x h =
     let u3 = c .before in
     let u2 = u3 .before in
     let u1 = u2 .before in
     let s2 = u1 .before in
     let s1 = s2 .before in
-    let o2 = s1 .before in
+    let o2 = s1 .before .before in
     let o1 = o2 .before in
     let g2 = o1 .before in
     let g1 = g2 .before in
     let n2 = g1 .before in
     let n1 = n2 .before in
+    let a = n1 .before .before .before .args in
+    let p = left-coded u h in
+    let q = right-coded u h in
+    let d : c .unless4 .result ≡ checked (byNumbers u (a .i) (a .l) (a .r) (a .lb) (a .rb) (a .x)) =
     rw (
-      ← n1 .unused-fits .ensures,
-      ← n2 .unused-fits2 .ensures,
-      ← g1 .signal-fits .ensures,
-      ← g2 .signal-fits2 .ensures,
-      ← o1 .operand-fits .ensures,
-      ← o2 .operand-fits2 .ensures,
-      ← s1 .sort-fits .ensures,
-      ← s2 .sort-fits2 .ensures,
+      ← n1 .unused-fits .ensures (u .0) p,
+      ← n2 .unused-fits2 .ensures (u .1) q,
+      ← g1 .signal-fits .ensures (u .0) p,
+      ← g2 .signal-fits2 .ensures (u .1) q,
+      ← o1 .operand-fits .ensures (u .0) p,
+      ← o2 .operand-fits2 .ensures (u .1) q,
+      ← s1 .sort-fits .ensures (u .0) p,
+      ← s2 .sort-fits2 .ensures (u .1) q,
     )
-    (c .unless4 .ensures _ (u3 .unless3 .ensures _ (u2 .unless2 .ensures _ (u1 .unless .ensures none refl))))
+    (c .unless4 .ensures _ (u3 .unless3 .ensures _ (u2 .unless2 .ensures _ (u1 .unless .ensures none refl)))) in
+    d ∙ ap checked (places-coded u (a .i) (a .l) (a .r) (a .lb) (a .rb) R (a .x) numbered x)
 
 pub check-places-spec : {M : Type 1} → statement M
 check-places-spec =

@@ -3,6 +3,7 @@ use borrow.Author.Needs.{needs}
 use mathlib.Core.Path.{ap, _∙_}
 use Rattle.table.specs.Answer.{checked}
 use Rattle.table.proofs.CheckLaw.{read-node}
+use Rattle.table.proofs.PlaceLaw.{boolean-read}
 use Rattle.table.proofs.refused_at.Statement.{statement}
 use Rattle.table.proofs.refused_at.Tie as tie
 
@@ -49,15 +50,15 @@ check-node-requires : tie.Need-check-node-requires
 check-node-requires c κs = search needs
 
 returns : tie.Need-returns
-returns c =
+returns c R C =
     let k = c .before in
     let b = k .before .before in
     let a = b .before .before in
     let r = a .before in
     let l = r .before in
     let st = l .before .before .before in
-    c .check-node .ensures
-    ∙ ap checked (read-node (st .args .rules) (st .args .t .now) (st .args .i .0) (k .number-at5 .ensures) (l .number-at .ensures) (r .number-at2 .ensures) (a .number-at3 .ensures) (b .number-at4 .ensures))
+    c .check-node .ensures R C
+    ∙ ap checked (read-node R (st .args .t .now) (st .args .i .0) (k .number-at5 .ensures) (l .number-at .ensures) (r .number-at2 .ensures) (boolean-read C (a .number-at3 .ensures)) (boolean-read C (b .number-at4 .ensures)))
 
 pub refused-at-spec : {M : Type 1} → statement M
 refused-at-spec =

@@ -3,7 +3,7 @@ use borrow.Author.Needs.{needs}
 use native.Mathlib.Omega.{arith}
 use mathlib.Core.Path.{refl}
 use Prim.Native.Nat.{_-_}
-use Rattle.table.specs.Check.{total}
+use Rattle.psl.specs.Check.{total}
 use Rattle.psl.proofs.AcceptedLaw.{most-nodes}
 use Rattle.translate.proofs.DeliversLaw.{SizeSoFar, size-next, size-last}
 use Rattle.translate.proofs.emitted_size.Statement.{statement}

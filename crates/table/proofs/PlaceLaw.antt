@@ -1,0 +1,172 @@
+-- The code's tests of a place, by masks and limits, decide the definition's; and the code's rules are those of the table.
+use mathlib.Core.Path.{_≡_, refl, sym, ap, _∙_, subst}
+use mathlib.Core.Bool.{Bool, true, false, not, _&&_, _||_, Bool·beq}
+use mathlib.Core.Option.{Option, none, some}
+use mathlib.Core.List.{List, [], _∷_}
+use Prim.Native.Nat.{ℕ, zero, suc, _-_, _%_, _<_}
+use native.Mathlib.Omega.{arith}
+use native.Mathlib.Decide.{decLt}
+use lib.Dec.{eqb, ltb}
+use lib.ListN.{length, getD}
+use lib.Bits.{bitAnd, bitOr, and-mask, and-zero-r, or-zero-l, or-zero-r}
+use borrow.Author.Tests.{lt-ltb, le-ltb, ne-eqb, ltb-true}
+use Rattle.trace.specs.declared.Refusal.{Refusal}
+use Rattle.table.specs.declared.Place.{Place}
+use Rattle.table.specs.declared.Shape.{Shape}
+use Rattle.table.specs.declared.Numbers.{Numbers as CodeNumbers}
+use Rattle.table.specs.declared.Rules.{Rules as CodeRules}
+use Rattle.table.specs.declared.Checked.{Checked}
+use Rattle.table.specs.declared.Checked.the-variants.{Refused}
+use Rattle.table.specs.Answer.{refused, checked}
+use Rattle.table.specs.Node.{node}
+use Rattle.table.specs.Check.{Use, unused, signal, operand, Sorts, Rules, known, shapeOf, booleanKind, unusedFits, signalFits, operandFits, sortFits, unless, sortRefusal, placesRefusal, nodeRefusal}
+use Rattle.table.specs.Inner.Place.{coded, codedShape, operandOr, bound, mostKinds, shapes, booleans, sortNumber, Numbered, codedNumbers, Codes}
+
+-- ── Places ──
+
+-- What the code computes of place p is what is meant of its use.
+pub record Decides (p : Place) (u : Use) : Type 0 where
+  pub unused : (n : ℕ) → not (eqb (p .limit) 1) || eqb n 0 ≡ unusedFits u n
+  pub signal : (n : ℕ) → not (eqb (p .limit) 32) || ltb n 32 ≡ signalFits u n
+  pub operand : (n i : ℕ) → not (p .operand) || ltb n i ≡ operandFits u n i
+  pub sort : (b : Bool) → not (p .operand) || Bool·beq b (p .boolean) ≡ sortFits u b
+  pub low : (i : ℕ) → i < 65536 → bitOr (bitAnd i (p .mask)) (p .limit) ≡ bound u i
+  pub named : (n : ℕ) → n < 65536 → bitAnd n (p .mask) ≡ operandOr u n 0
+  pub counted : (n i : ℕ) → n < 65536 → i < 65536 → bitOr (bitAnd n (p .mask)) (bitAnd i (65535 - p .mask)) ≡ operandOr u n i
+
+and-ones : (n : ℕ) → n < 65536 → bitAnd n 65535 ≡ n
+and-ones n h = let z : bitAnd n 65535 ≡ n % 65536 = and-mask n 16 in omega arith
+
+-- By the mask 0, and by that of all ones.
+or-cleared : (n m : ℕ) → bitOr (bitAnd n 0) m ≡ m
+or-cleared n m = rw (and-zero-r n) (or-zero-l m)
+
+or-kept : (n i : ℕ) → n < 65536 → bitOr (bitAnd n 65535) (bitAnd i 0) ≡ n
+or-kept n i h = rw (and-zero-r i, and-ones n h) (or-zero-r n)
+
+decided : (u : Use) → Decides (coded u) u
+decided unused =
+    record {
+      unused = λ n. refl;
+      signal = λ n. refl;
+      operand = λ n i. refl;
+      sort = λ b. refl;
+      low = λ i h. or-cleared i 1;
+      named = λ n h. and-zero-r n;
+      counted = λ n i h g. or-cleared n (bitAnd i 65535) ∙ and-ones i g;
+    }
+decided signal =
+    record {
+      unused = λ n. refl;
+      signal = λ n. refl;
+      operand = λ n i. refl;
+      sort = λ b. refl;
+      low = λ i h. or-cleared i 32;
+      named = λ n h. and-zero-r n;
+      counted = λ n i h g. or-cleared n (bitAnd i 65535) ∙ and-ones i g;
+    }
+decided (operand b) =
+    record {
+      unused = λ n. refl;
+      signal = λ n. refl;
+      operand = λ n i. refl;
+      sort = λ s. refl;
+      low = λ i h. rw (and-ones i h) (or-zero-r i);
+      named = λ n h. and-ones n h;
+      counted = λ n i h g. or-kept n i h;
+    }
+
+pub decides : {p : Place} (u : Use) → p ≡ coded u → Decides p u
+decides {p} u e = subst (λ (q : Place). Decides q u) (sym e) (decided u)
+
+pub left-coded : {h : Shape} (u : Use × Use) → h ≡ codedShape u → h .0 ≡ coded (u .0)
+left-coded u e = ap (λ (s : Shape). s .0) e
+
+pub right-coded : {h : Shape} (u : Use × Use) → h ≡ codedShape u → h .1 ≡ coded (u .1)
+right-coded u e = ap (λ (s : Shape). s .1) e
+
+-- ── Rules ──
+
+-- What is read past the end.
+abbrev noPlace : Place
+noPlace = record { operand = false; boolean = false; mask = 0; limit = 0 }
+
+abbrev pub noShape : Shape
+noShape = record { 0 = noPlace; 1 = noPlace }
+
+shapes-at : (n : ℕ) (ks : List (Use × Use)) (k : ℕ) → k < length ks → k < n → getD (shapes n ks) k noShape ≡ codedShape (getD ks k (unused, unused))
+shapes-at zero ks k h g = absurd (omega arith)
+shapes-at (suc n) [] k h g = absurd (omega arith)
+shapes-at (suc n) (u ∷ ks) zero h g = refl
+shapes-at (suc n) (u ∷ ks) (suc k) h g = shapes-at n ks k (omega arith) (omega arith)
+
+module _ {C : CodeRules} {R : Rules} (c : Codes C R) where
+  kinds-coded : C .kinds ≡ length (R .kinds)
+  kinds-coded = ap (λ (D : CodeRules). D .kinds) (c .is)
+
+  booleans-coded : C .booleans ≡ booleans (R .sorts)
+  booleans-coded = ap (λ (D : CodeRules). D .booleans) (c .is)
+
+  pub kind-room : (k : ℕ) → k < length (R .kinds) → k < mostKinds
+  kind-room k h = omega (arith, c .room)
+
+  -- The shape of a kind.
+  pub shape-coded : (k : ℕ) → k < length (R .kinds) → getD (C .shapes) k noShape ≡ codedShape (shapeOf R k)
+  shape-coded k h =
+      ap (λ (D : CodeRules). getD (D .shapes) k noShape) (c .is) ∙ shapes-at mostKinds (R .kinds) k h (kind-room k h)
+
+  -- The code also tests that there is room for the kind.
+  pub known-coded : (k : ℕ) → ltb k (C .kinds) && ltb k mostKinds ≡ known R k
+  known-coded k =
+      rw kinds-coded
+      (elim (decLt k (length (R .kinds))) [
+        | yes h ↦ rw (lt-ltb k (length (R .kinds)) h, lt-ltb k mostKinds (kind-room k h))
+        | no h ↦ rw (le-ltb k (length (R .kinds)) (omega arith))
+      ])
+
+-- A node, as `check_node` answers.
+module _ {C : CodeRules} {R : Rules} (c : Codes C R) (i k l r : ℕ) (lb rb : Bool) where
+  pub kind-refused : ltb k (C .kinds) && ltb k mostKinds ≡ false → Refused (refused (C .numbers .kind)) ≡ checked (nodeRefusal R i (node k l r) lb rb)
+  unfolding nodeRefusal
+  kind-refused e = rw (sym (known-coded c k) ∙ e) (ap (λ (D : CodeRules). Refused (refused (D .numbers .kind))) (c .is))
+
+  -- The places answer where the kind is known.
+  pub places-answer : ltb k (C .kinds) && ltb k mostKinds ≡ true → (a : Checked)
+      → ((R : Rules) (u : Use × Use) → Numbered (R .sorts) → C .numbers ≡ codedNumbers R → getD (C .shapes) k noShape ≡ codedShape u → a ≡ checked (placesRefusal R u i l r lb rb))
+      → a ≡ checked (nodeRefusal R i (node k l r) lb rb)
+  unfolding nodeRefusal
+  places-answer e a f =
+      let d : known R k ≡ true = sym (known-coded c k) ∙ e in
+      rw d (f R (shapeOf R k) (c .numbered) (ap (λ (D : CodeRules). D .numbers) (c .is)) (shape-coded c k (ltb-true k _ d)))
+
+-- The number 0 leaves the test of the sorts out.
+sorts-coded : (S : Option Sorts) → Numbered S → (u : Use × Use) (lb rb : Bool)
+    → unless (eqb (sortNumber S) 0 || sortFits (u .0) lb && sortFits (u .1) rb) (refused (sortNumber S)) none ≡ sortRefusal S u lb rb
+sorts-coded none n u lb rb = refl
+sorts-coded (some s) n u lb rb = rw (ne-eqb (s .number) 0 n)
+
+-- The places of a node, by the code's numbers.
+module _ (u : Use × Use) (i l r : ℕ) (lb rb : Bool) where
+  abbrev pub byNumbers : CodeNumbers → Option Refusal
+  byNumbers x =
+      unless (unusedFits (u .0) l && unusedFits (u .1) r) (refused (x .unused))
+      (unless (signalFits (u .0) l && signalFits (u .1) r) (refused (x .signal))
+      (unless (operandFits (u .0) l i && operandFits (u .1) r i) (refused (x .operand))
+      (unless (eqb (x .sort) 0 || sortFits (u .0) lb && sortFits (u .1) rb) (refused (x .sort)) none)))
+
+  pub places-coded : (R : Rules) (x : CodeNumbers) → Numbered (R .sorts) → x ≡ codedNumbers R → byNumbers x ≡ placesRefusal R u i l r lb rb
+  unfolding placesRefusal
+  places-coded R x n e =
+      ap byNumbers e
+      ∙ ap (λ (o : Option Refusal).
+      unless (unusedFits (u .0) l && unusedFits (u .1) r) (refused (R .numbers .unused))
+      (unless (signalFits (u .0) l && signalFits (u .1) r) (refused (R .numbers .signal))
+      (unless (operandFits (u .0) l i && operandFits (u .1) r i) (refused (R .numbers .operand)) o))) (sorts-coded (R .sorts) n u lb rb)
+
+boolean-coded : (S : Option Sorts) (k : ℕ) → ltb k (booleans S) ≡ booleanKind S k
+boolean-coded none k = le-ltb k 0 (omega arith)
+boolean-coded (some s) k = refl
+
+-- The kind k that was read is a Boolean.
+pub boolean-read : {C : CodeRules} {R : Rules} → Codes C R → {k m : ℕ} → k ≡ m → ltb k (C .booleans) ≡ booleanKind (R .sorts) m
+boolean-read {C} {R} c {k} {m} e = rw (booleans-coded c, e) (boolean-coded (R .sorts) m)

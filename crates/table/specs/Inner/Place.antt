@@ -1,0 +1,105 @@
+-- The rules of a table as the code holds them, and the tests as it makes them: with masks and limits, so that the test of a node takes no branch
+-- on its kind.
+use mathlib.Core.Path.{_≡_}
+use mathlib.Core.Bool.{Bool, true, false, _&&_}
+use mathlib.Core.Option.{Option, none, some}
+use mathlib.Core.List.{List, [], _∷_}
+use Prim.Native.Nat.{ℕ, zero, suc, _≤_}
+use lib.Dec.{ltb}
+use lib.ListN.{length}
+use Rattle.logic.specs.Letter.{signals}
+use Rattle.table.specs.declared.Place.{Place}
+use Rattle.table.specs.declared.Shape.{Shape}
+use Rattle.table.specs.declared.Numbers.{Numbers as CodeNumbers}
+use Rattle.table.specs.declared.Rules.{Rules as CodeRules}
+use Rattle.table.specs.Check.{Use, unused, signal, operand, Sorts, Rules, sortFits}
+
+-- ── Places ──
+
+-- A place has an operand, and then its mask is all ones; or else the mask is 0 and there is a limit.
+abbrev pub coded : Use → Place
+coded unused = record { operand = false; boolean = false; mask = 0; limit = 1 }
+coded signal = record { operand = false; boolean = false; mask = 0; limit = signals }
+coded (operand b) = record { operand = true; boolean = b; mask = 65535; limit = 0 }
+
+abbrev pub codedShape : Use × Use → Shape
+codedShape h = record { 0 = coded (h .0); 1 = coded (h .1) }
+
+-- The number of an operand, or else m.
+abbrev pub operandOr : Use → ℕ → ℕ → ℕ
+operandOr unused n m = m
+operandOr signal n m = m
+operandOr (operand b) n m = n
+
+-- ── The tests of a place that holds n ──
+
+-- All but that of the sort at once: what a place of node i holds is below this.
+abbrev pub bound : Use → ℕ → ℕ
+bound unused i = 1
+bound signal i = signals
+bound (operand b) i = i
+
+abbrev pub lowFits : Use → ℕ → ℕ → Bool
+lowFits u n i = ltb n (bound u i)
+
+-- The sort, if there are two.
+abbrev pub sortsFit : Option Sorts → Use → Bool → Bool
+sortsFit none u b = true
+sortsFit (some s) u b = sortFits u b
+
+-- All tests.
+abbrev pub allFit : Rules → Use → ℕ → ℕ → Bool → Bool
+allFit R u n i b = sortsFit (R .sorts) u b && lowFits u n i
+
+-- ── Rules ──
+
+-- How many kinds the code has room for.
+abbrev pub mostKinds : ℕ
+mostKinds = 11
+
+-- The shapes of n kinds, spare ones behind those that there are.
+abbrev pub shapes : ℕ → List (Use × Use) → List Shape
+shapes zero ks = []
+shapes (suc n) [] = codedShape (unused, unused) ∷ shapes n []
+shapes (suc n) (h ∷ ks) = codedShape h ∷ shapes n ks
+
+-- Without sorts no kind is a Boolean, and the refusal has the number 0, which stands for none.
+abbrev pub booleans : Option Sorts → ℕ
+booleans none = 0
+booleans (some s) = s .booleans
+
+abbrev pub sortNumber : Option Sorts → ℕ
+sortNumber none = 0
+sortNumber (some s) = s .number
+
+abbrev pub codedNumbers : Rules → CodeNumbers
+codedNumbers R =
+    record {
+      length = R .numbers .length;
+      kind = R .numbers .kind;
+      unused = R .numbers .unused;
+      signal = R .numbers .signal;
+      operand = R .numbers .operand;
+      sort = sortNumber (R .sorts);
+    }
+
+abbrev pub codedRules : Rules → CodeRules
+codedRules R =
+    record {
+      shapes = shapes mostKinds (R .kinds);
+      kinds = length (R .kinds);
+      booleans = booleans (R .sorts);
+      most = R .most;
+      numbers = codedNumbers R;
+    }
+
+-- Where there is a refusal of sorts, 0 is not its number.
+abbrev pub Numbered : Option Sorts → Type 0
+Numbered none = Unit {0}
+Numbered (some s) = s .number ≡ 0 → ⊥
+
+-- C are the rules R as the code holds them: there is room for all kinds.
+pub record Codes (C : CodeRules) (R : Rules) : Type 0 where
+  pub is : C ≡ codedRules R
+  pub room : length (R .kinds) ≤ mostKinds
+  pub numbered : Numbered (R .sorts)
