@@ -9,11 +9,32 @@ use table::SPARE;
 use table::Shape;
 use table::UNUSED;
 use trace::Refusal;
+ghost use mathlib.Core.Path.{_≡_};
 ghost use Prim.Native.Nat.{_<_};
 ghost use Rattle.table.specs.Node.{count};
+ghost use Rattle.table.specs.Answer.{checked};
+ghost use Rattle.table.specs.Check.{refusalAt};
 ghost use Rattle.table.specs.Inner.First.{FirstRefused};
 ghost use Rattle.ltl.specs.Check.{ltlRules};
 ghost use Rattle.ltl.specs.Answer.{LtlChecks};
+
+// The kinds.
+pub const TRUE: u16 = 0;
+
+pub const VAR: u16 = 1;
+
+pub const NOT: u16 = 2;
+
+pub const AND: u16 = 3;
+
+pub const OR: u16 = 4;
+
+pub const NEXT: u16 = 5;
+
+pub const UNTIL: u16 = 6;
+
+// The most nodes of a table.
+pub const MOST_NODES: usize = 4096;
 
 // What stands left and right, kind by kind. All are formulas, so no operand is of the wrong sort, and that refusal has no number: 0.
 pub const LTL: Rules = Rules {
@@ -32,9 +53,7 @@ pub const LTL: Rules = Rules {
     ],
     kinds: 7,
     booleans: 0,
-    most: 4096,
     numbers: Numbers {
-        length: 11,
         kind: 12,
         unused: 13,
         signal: 14,
@@ -68,11 +87,18 @@ fn first_refused(t: &[u16]) -> usize
     n
 }
 
+// The answer for node i.
+fn refused_at(t: &[u16], i: NodeNo) -> Checked
+    ensures { λ r. ⌜ r ≡ checked (refusalAt ltlRules (now (t .entry)) (i .0)) ⌝ }
+{
+    table::refused_at(LTL, t, i)
+}
+
 // Refusals 11 to 15.
 pub fn check_ltl(t: &[u16]) -> Checked
     ensures { λ r. ⌜ LtlChecks (now (t .entry)) r ⌝ }
 {
-    if !table::length_fits(LTL.most, t.len()) {
+    if !table::length_fits(MOST_NODES, t.len()) {
         return Checked::Refused(Refusal(11));
     }
     let i = first_refused(t);
@@ -80,5 +106,5 @@ pub fn check_ltl(t: &[u16]) -> Checked
         return Checked::Accepted;
     }
     let own = i as u16;
-    table::refused_at(LTL, t, NodeNo(own))
+    refused_at(t, NodeNo(own))
 }

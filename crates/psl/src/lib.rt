@@ -16,12 +16,40 @@ ghost use Prim.Native.Nat.{_<_};
 ghost use lib.Dec.{ltb};
 ghost use Rattle.table.specs.Answer.{checked};
 ghost use Rattle.table.specs.Node.{count, kindAt};
-ghost use Rattle.table.specs.Check.{Use, sortFits};
+ghost use Rattle.table.specs.Check.{Use, sortFits, refusalAt};
 ghost use Rattle.table.specs.Inner.Place.{coded, codedShape, operandOr, allFit};
 ghost use Rattle.table.specs.Inner.First.{FirstRefused};
 ghost use Rattle.psl.specs.Check.{pslRules, one, treeRefusal, pslRefusal};
 ghost use Rattle.psl.specs.Counts.{Counted, Room, Tallied};
 ghost use Rattle.psl.specs.Answer.{PslChecks};
+
+// The kinds. The first are Booleans.
+pub const TRUE: u16 = 0;
+
+pub const VAR: u16 = 1;
+
+pub const BNOT: u16 = 2;
+
+pub const BAND: u16 = 3;
+
+pub const WEAK: u16 = 4;
+
+pub const STRONG: u16 = 5;
+
+pub const NOT: u16 = 6;
+
+pub const AND: u16 = 7;
+
+pub const NEXT: u16 = 8;
+
+pub const UNTIL: u16 = 9;
+
+pub const ABORT: u16 = 10;
+
+pub const BOOLEANS: u16 = 4;
+
+// The most nodes of a table.
+pub const MOST_NODES: usize = 1024;
 
 // What stands left and right, kind by kind. The first four kinds are Booleans, the others formulas.
 pub const PSL: Rules = Rules {
@@ -39,10 +67,8 @@ pub const PSL: Rules = Rules {
         Shape(FORMULA, BOOLEAN), // 10 abort
     ],
     kinds: 11,
-    booleans: 4,
-    most: 1024,
+    booleans: BOOLEANS,
     numbers: Numbers {
-        length: 1,
         kind: 2,
         unused: 3,
         signal: 4,
@@ -146,10 +172,17 @@ fn check_uses(t: &[u16], c: &[u16]) -> Checked
         }
         j += 1;
     }
-    if t[3 * last] < PSL.booleans {
+    if t[3 * last] < BOOLEANS {
         return Checked::Refused(Refusal(8));
     }
     Checked::Accepted
+}
+
+// The answer for node i.
+fn refused_at(t: &[u16], i: NodeNo) -> Checked
+    ensures { λ r. ⌜ r ≡ checked (refusalAt pslRules (now (t .entry)) (i .0)) ⌝ }
+{
+    table::refused_at(PSL, t, i)
 }
 
 // The nodes, and then their uses; the counts are kept in c.
@@ -160,23 +193,28 @@ fn check_nodes(t: &[u16], c: &mut [u16]) -> Checked
     let i = count_uses(t, &mut *c);
     if i < t.len() / 3 {
         let own = i as u16;
-        return table::refused_at(PSL, t, NodeNo(own));
+        return refused_at(t, NodeNo(own));
     }
     check_uses(t, &*c)
 }
+
+// What a small table has at most.
+const FEW_NODES: usize = 128;
+
+const FEW_NUMBERS: usize = 3 * FEW_NODES;
 
 // Refusals 1 to 8. A small table has a small list of counts: it is cleared at each check.
 pub fn check_psl(t: &[u16]) -> Checked
     ensures { λ r. ⌜ PslChecks (now (t .entry)) r ⌝ }
 {
-    if !table::length_fits(PSL.most, t.len()) {
+    if !table::length_fits(MOST_NODES, t.len()) {
         return Checked::Refused(Refusal(1));
     }
-    if t.len() <= 384 {
-        let mut c = [0u16; 128];
+    if t.len() <= FEW_NUMBERS {
+        let mut c = [0u16; FEW_NODES];
         check_nodes(t, &mut c[..])
     } else {
-        let mut c = [0u16; 1024];
+        let mut c = [0u16; MOST_NODES];
         check_nodes(t, &mut c[..])
     }
 }

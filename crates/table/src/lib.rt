@@ -16,7 +16,7 @@ ghost use Rattle.table.specs.Inner.Place.{coded, codedShape, codedNumber
 pub struct NodeNo(pub u16);
 
 // How many kinds a table can have.
-pub const KINDS: u16 = 11;
+pub const MOST_KINDS: usize = 11;
 
 // The mask of a place that holds an operand.
 const ONES: u16 = 65535;
@@ -67,7 +67,6 @@ pub const SPARE: Shape = Shape(UNUSED, UNUSED);
 
 // The numbers of the refusals, each by what is wrong. Where there are no sorts, that refusal has the number 0, and the test is left out.
 pub struct Numbers {
-    pub length: u8,
     pub kind: u8,
     pub unused: u8,
     pub signal: u8,
@@ -75,12 +74,11 @@ pub struct Numbers {
     pub sort: u8,
 }
 
-// The rules of a table: the shapes of its kinds, how many kinds there are, how many of these, the first, are Booleans, and the most nodes.
+// The rules of a table: the shapes of its kinds, how many kinds there are, and how many of these, the first, are Booleans.
 pub struct Rules {
-    pub shapes: [Shape; 11],
+    pub shapes: [Shape; MOST_KINDS],
     pub kinds: u16,
     pub booleans: u16,
-    pub most: u16,
     pub numbers: Numbers,
 }
 
@@ -89,11 +87,11 @@ pub enum Checked {
     Refused(Refusal),
 }
 
-// A table of n numbers has as many nodes as are allowed. (The range of `most` is for the caller, who has it from a struct.)
-pub fn length_fits(most: u16, n: usize) -> bool
-    ensures { λ r. ⌜ (r ≡ lengthFits most n) × (most < 65536) ⌝ }
+// A table of n numbers has as many nodes as are allowed.
+pub fn length_fits(most: usize, n: usize) -> bool
+    ensures { λ r. ⌜ r ≡ lengthFits most n ⌝ }
 {
-    (n % 3 == 0) & (0 < n / 3) & (n / 3 <= most as usize)
+    (n % 3 == 0) & (0 < n / 3) & (n / 3 <= most)
 }
 
 fn unused_fits(p: Place, n: u16) -> bool
@@ -184,7 +182,7 @@ pub fn check_node(rules: Rules, i: NodeNo, k: u16, l: u16, r: u16, lb: bool, rb:
     ensures { λ a. ⌜ ((R : TableRules) → Codes rules R → a ≡ checked (nodeRefusal R (i .0) (node k l r) lb rb)) ⌝ }
 {
     let x = rules.numbers;
-    if !((k < rules.kinds) & (k < KINDS)) {
+    if !((k < rules.kinds) & ((k as usize) < MOST_KINDS)) {
         return Checked::Refused(Refusal(x.kind));
     }
     let at = k as usize;

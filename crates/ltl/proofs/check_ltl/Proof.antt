@@ -9,13 +9,12 @@ use Rattle.table.specs.Check.{lengthFits}
 use Rattle.table.specs.Answer.{checked}
 use Rattle.table.proofs.CheckLaw.{sized, refused-length, refused-node, refused-none}
 use Rattle.ltl.specs.Check.{ltlRules}
-use Rattle.ltl.proofs.CheckLaw.{rules-coded}
 use Rattle.ltl.proofs.check_ltl.Statement.{statement}
 use Rattle.ltl.proofs.check_ltl.Tie as tie
 
 -- Past the test of the length.
 right-length : (e : tie.Else1) → let a = e .before .before .before .args in lengthFits (ltlRules .most) (length (a .t .now)) ≡ true
-right-length e = sym (e .before .length-fits .ensures .0) ∙ not-false _ (e .if1 .left)
+right-length e = sym (e .before .length-fits .ensures) ∙ not-false _ (e .if1 .left)
 
 length-fits-requires : tie.Need-length-fits-requires
 length-fits-requires c κs = search needs
@@ -24,7 +23,7 @@ returns : tie.Need-returns
 returns c =
     let f = c .before in
     let a = f .before .before .args in
-    sym (ap checked (refused-length ltlRules (a .t .now) (sym (f .length-fits .ensures .0) ∙ not-true (f .length-fits .result) (c .if1 .taken))))
+    sym (ap checked (refused-length ltlRules (a .t .now) (sym (f .length-fits .ensures) ∙ not-true (f .length-fits .result) (c .if1 .taken))))
 
 first-refused-requires : tie.Need-first-refused-requires
 first-refused-requires c κs = omega (arith, sized ltlRules (c .before .before .before .args .t .now) (right-length c) .low)
@@ -49,7 +48,7 @@ returns-3 c =
     let f = c .before .before in
     let e = f .before in
     let F = f .first-refused .ensures in
-    refused-node ltlRules (e .before .before .before .args .t .now) (right-length e) (f .first-refused .result) (c .refused-at .result) (omega arith) (F .passed) (F .stopped (omega arith)) (c .refused-at .ensures ltlRules rules-coded)
+    refused-node ltlRules (e .before .before .before .args .t .now) (right-length e) (f .first-refused .result) (c .refused-at .result) (omega arith) (F .passed) (F .stopped (omega arith)) (c .refused-at .ensures)
 
 pub check-ltl-spec : {M : Type 1} → statement M
 check-ltl-spec =

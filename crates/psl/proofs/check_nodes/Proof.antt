@@ -8,7 +8,7 @@ use Rattle.table.specs.Node.{count}
 use Rattle.table.proofs.CheckLaw.{sized, refused-node, refused-none}
 use Rattle.psl.specs.Check.{pslRules}
 use Rattle.psl.specs.Counts.{Tallied}
-use Rattle.psl.proofs.CheckLaw.{rules-coded, psl-by-node, psl-then}
+use Rattle.psl.proofs.CheckLaw.{psl-by-node, psl-then}
 use Rattle.psl.proofs.check_nodes.Statement.{statement}
 use Rattle.psl.proofs.check_nodes.Tie as tie
 
@@ -36,7 +36,7 @@ returns c =
     let i = u .count-uses .result in
     let F = u .count-uses .ensures .0 in
     let h : i < count t = omega arith in
-    refused-node pslRules t (start u .pre .right-length) i (c .refused-at .result) h (F .passed) (F .stopped h) (c .refused-at .ensures pslRules rules-coded)
+    refused-node pslRules t (start u .pre .right-length) i (c .refused-at .result) h (F .passed) (F .stopped h) (c .refused-at .ensures)
     ∙ ap checked (psl-by-node t i h (F .stopped h))
 
 check-uses-requires : tie.Need-check-uses-requires

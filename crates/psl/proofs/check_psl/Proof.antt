@@ -15,7 +15,7 @@ use Rattle.psl.proofs.check_psl.Tie as tie
 
 -- Past the test of the length.
 right-length : (e : tie.Else1) → lengthFits (pslRules .most) (length (e .before .before .before .args .t .now)) ≡ true
-right-length e = sym (e .before .length-fits .ensures .0) ∙ not-false _ (e .if1 .left)
+right-length e = sym (e .before .length-fits .ensures) ∙ not-false _ (e .if1 .left)
 
 length-fits-requires : tie.Need-length-fits-requires
 length-fits-requires c κs = search needs
@@ -24,7 +24,7 @@ returns : tie.Need-returns
 returns c =
     let f = c .before in
     let t = f .before .before .args .t .now in
-    sym (ap checked (psl-first t _ (refused-length pslRules t (sym (f .length-fits .ensures .0) ∙ not-true (f .length-fits .result) (c .if1 .taken)))))
+    sym (ap checked (psl-first t _ (refused-length pslRules t (sym (f .length-fits .ensures) ∙ not-true (f .length-fits .result) (c .if1 .taken)))))
 
 slice-aggregate-check-nodes : tie.Need-slice-aggregate-check-nodes
 slice-aggregate-check-nodes c = search needs

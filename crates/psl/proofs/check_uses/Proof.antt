@@ -66,12 +66,12 @@ shared-slice-read-if2 c = omega (arith, few (start (c .before .before)) .some)
 
 returns-2 : tie.Need-returns-2 Inv-loop μ-loop
 returns-2 c =
-    let lp = c .before .before .before .before in
+    let lp = c .before .before .before in
     sym (ap checked (root-refused _ (lp .loop .j) (omega arith) (lp .loop .inv .1) (lt-ltb _ 4 (c .if2 .taken))))
 
 returns-3 : tie.Need-returns-3 Inv-loop μ-loop
 returns-3 c =
-    let lp = c .before .before .before .before in
+    let lp = c .before .before .before in
     sym (ap checked (root-fine _ (lp .loop .j) (omega arith) (lp .loop .inv .1) (le-ltb _ 4 (c .if2 .left))))
 
 pub check-uses-spec : {M : Type 1} → statement M

@@ -75,7 +75,6 @@ sortNumber (some s) = s .number
 abbrev pub codedNumbers : Rules → CodeNumbers
 codedNumbers R =
     record {
-      length = R .numbers .length;
       kind = R .numbers .kind;
       unused = R .numbers .unused;
       signal = R .numbers .signal;
@@ -89,7 +88,6 @@ codedRules R =
       shapes = shapes mostKinds (R .kinds);
       kinds = length (R .kinds);
       booleans = booleans (R .sorts);
-      most = R .most;
       numbers = codedNumbers R;
     }
 
