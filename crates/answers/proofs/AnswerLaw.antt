@@ -36,7 +36,7 @@ use Rattle.formula_lines.specs.Closing.{table}
 use Rattle.text.specs.Reading.{Takes, Refuses}
 use Rattle.formula_lines.specs.FormulaAnswer.{formulaLimits, FormulaAnswer}
 use Rattle.trace_lines.specs.TraceAnswer.{traceLimits, TraceAnswer}
-use Rattle.formula_lines.specs.declared.Line.the-variants as Line
+use Rattle.formula_lines.specs.declared.FormulaLine.the-variants as FormulaLine
 use Rattle.trace_lines.specs.declared.TraceLine.the-variants as TraceLine
 use Rattle.text.proofs.ReadingLaw.{takes-by, refuses-by, front-take, front-length}
 use Rattle.formula_lines.proofs.LimitsLaw.{limits-few, limits-accepted, formula-room}
@@ -59,10 +59,10 @@ tables-accepted {f} {psl} {ltl} a =
 -- ── Line 1 ──
 
 module _ (line l m : List ℕ) (room : length l ≡ 3072) where
-  pub first-refused : {x : Refusal} → FormulaAnswer line l (Line.Refused x) m → Refuses formulaLine formulaLimits line x
+  pub first-refused : {x : Refusal} → FormulaAnswer line l (FormulaLine.Refused x) m → Refuses formulaLine formulaLimits line x
   first-refused (a, _) = refuses-by (λ f. formula-room f (length l) (omega arith)) a
 
-  module _ (n : ℕ) (a : FormulaAnswer line l (Line.Nodes n) m) where
+  module _ (n : ℕ) (a : FormulaAnswer line l (FormulaLine.Nodes n) m) where
     abbrev f : Formula
     f = a .0
 

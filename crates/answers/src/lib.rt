@@ -4,7 +4,7 @@ ghost use lib.ListN.{length};
 ghost use Rattle.logic.specs.Formula.{Formula};
 ghost use Rattle.answers.specs.Answer.{LaterAnswer};
 ghost use Rattle.answers.specs.Inner.{TablesOf, Accepted, FirstAnswer};
-use formula_lines::Line;
+use formula_lines::FormulaLine;
 use trace::Refusal;
 use trace_lines::TraceLine;
 use translate::Translation;
@@ -28,8 +28,8 @@ pub fn first_line(line: &[u8], psl: &mut [u16], ltl: &mut [u16]) -> First
     ensures { λ r. ⌜ FirstAnswer (now (line .entry)) r (now (psl .exit)) (now (ltl .exit)) ⌝ }
 {
     match formula_lines::read_formula(line, psl) {
-        Line::Refused(x) => First::Refused(x),
-        Line::Nodes(nodes) => {
+        FormulaLine::Refused(x) => First::Refused(x),
+        FormulaLine::Nodes(nodes) => {
             let end = 3 * nodes;
             match translate::translate(&psl[..end], ltl) {
                 Translation::Refused(x) => First::Refused(x),

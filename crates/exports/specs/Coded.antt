@@ -8,8 +8,8 @@ use Rattle.translate.specs.declared.Translation.{Translation}
 use Rattle.translate.specs.declared.Translation.the-variants as Translation
 use Rattle.verdict.specs.declared.Verdict.{Verdict}
 use Rattle.verdict.specs.declared.Verdict.the-variants as Verdict
-use Rattle.formula_lines.specs.declared.Line.{Line}
-use Rattle.formula_lines.specs.declared.Line.the-variants as Line
+use Rattle.formula_lines.specs.declared.FormulaLine.{FormulaLine}
+use Rattle.formula_lines.specs.declared.FormulaLine.the-variants as FormulaLine
 use Rattle.trace_lines.specs.declared.TraceLine.{TraceLine}
 use Rattle.trace_lines.specs.declared.TraceLine.the-variants as TraceLine
 use Rattle.node_lines.specs.declared.NodeLine.{NodeLine}
@@ -32,9 +32,9 @@ verdictCode Verdict.Yes = 257
 verdictCode Verdict.No = 256
 verdictCode (Verdict.Refused x) = x .0
 
-abbrev pub formulaCode : Line → ℕ
-formulaCode (Line.Nodes n) = 256 + n % 65536
-formulaCode (Line.Refused x) = x .0
+abbrev pub formulaCode : FormulaLine → ℕ
+formulaCode (FormulaLine.Nodes n) = 256 + n % 65536
+formulaCode (FormulaLine.Refused x) = x .0
 
 abbrev pub traceCode : TraceLine → ℕ
 traceCode (TraceLine.Letters lead cycle) = 256 + 65536 * (lead % 65536) + cycle % 65536

@@ -13,14 +13,14 @@ ghost use Rattle.translate.specs.Answer.{Delivers};
 ghost use Rattle.verdict.specs.declared.Verdict.{Verdict};
 ghost use Rattle.verdict.specs.Verdict.{PslJudges, LtlJudges};
 ghost use Rattle.table.specs.Node.{node};
-ghost use Rattle.formula_lines.specs.declared.Line.{Line};
+ghost use Rattle.formula_lines.specs.declared.FormulaLine.{FormulaLine};
 ghost use Rattle.trace_lines.specs.declared.TraceLine.{TraceLine};
 ghost use Rattle.node_lines.specs.Spelling.{nodeLine};
 ghost use Rattle.formula_lines.specs.FormulaAnswer.{FormulaAnswer};
 ghost use Rattle.trace_lines.specs.TraceAnswer.{TraceAnswer};
 ghost use Rattle.node_lines.specs.NodeAnswer.{nodeAnswer, nodeList};
 ghost use Rattle.exports.specs.Coded.{foundCode, checkedCode, translationCode, verdictCode, formulaCode, traceCode, nodeCode};
-use formula_lines::Line;
+use formula_lines::FormulaLine;
 use node_lines::NodeLine;
 use table::Checked;
 use table::NodeNo;
@@ -148,18 +148,18 @@ pub extern "C" fn brancadol_translate(table: &[u16], out: &mut [u16]) -> u64
     translation_code(translate::translate(table, out))
 }
 
-fn formula_code(a: Line) -> u64
+fn formula_code(a: FormulaLine) -> u64
     ensures { λ r. ⌜ r ≡ formulaCode a ⌝ }
 {
     match a {
-        Line::Nodes(n) => 256 + (n as u64) % 65536,
-        Line::Refused(x) => x.0 as u64,
+        FormulaLine::Nodes(n) => 256 + (n as u64) % 65536,
+        FormulaLine::Refused(x) => x.0 as u64,
     }
 }
 
 #[no_mangle]
 pub extern "C" fn brancadol_read_formula(line: &[u8], out: &mut [u16]) -> u64
-    ensures { λ r. ⌜ ((a : Line) × FormulaAnswer (now (line .entry)) (now (out .entry)) a (now (out .exit)) × (r ≡ formulaCode a)) ⌝ }
+    ensures { λ r. ⌜ ((a : FormulaLine) × FormulaAnswer (now (line .entry)) (now (out .entry)) a (now (out .exit)) × (r ≡ formulaCode a)) ⌝ }
 {
     formula_code(formula_lines::read_formula(line, out))
 }

@@ -7,7 +7,7 @@ use native.Mathlib.Omega.{arith}
 use lib.Dec.{T}
 use Rattle.text.specs.Text.{text}
 use Rattle.text.specs.Inner.Number.{NoDigit}
-use Rattle.formula_lines.specs.Inner.Form.{Form, truth, signal, one, two, word, shape, arity, leftSort, rightSort, kinds, Sorted, OfKind, bytes, inner}
+use Rattle.formula_lines.specs.Inner.Form.{Form, truth, signal, one, two, keyword, shape, arity, leftSort, rightSort, kinds, Sorted, OfKind, bytes, inner}
 use Rattle.text.specs.Inner.Words.{elem}
 use Rattle.formula_lines.specs.Inner.Reader.{Ended}
 use Rattle.text.proofs.NumberLaw.{digits-unique}
@@ -46,8 +46,8 @@ kind-fact (suc so) =
     (takes-forms (suc so) 9 (omega arith) (omega arith))
     (takes-forms (suc so) 10 (omega arith) (omega arith))
 
-kinds-distinct : (so : ℕ) → Distinct word (kinds so)
-unfolding word
+kinds-distinct : (so : ℕ) → Distinct keyword (kinds so)
+unfolding keyword
 kinds-distinct zero = tt
 kinds-distinct (suc so) = tt
 
@@ -82,14 +82,14 @@ kind-sorted (one j f) k so m (e, a, h) = subst (λ (k : ℕ). T (elem k (kinds s
 kind-sorted (two j f g) k so m (e, a, h, i) =
     subst (λ (k : ℕ). T (elem k (kinds so)) × (arity k ≡ 2) × Sorted (leftSort k) f × Sorted (rightSort k) g) e (m, a, h, i)
 
-pub kind-bytes : (f : Form) (k : ℕ) → OfKind k f → bytes f ≡ 40 ∷ (word k ++ (inner f ++ (41 ∷ [])))
+pub kind-bytes : (f : Form) (k : ℕ) → OfKind k f → bytes f ≡ 40 ∷ (keyword k ++ (inner f ++ (41 ∷ [])))
 unfolding bytes
 kind-bytes truth k h = absurd h
-kind-bytes (signal n) k h = ap (λ (k : ℕ). 40 ∷ (word k ++ (inner (signal n) ++ (41 ∷ [])))) (sym h)
-kind-bytes (one j f) k (e, _, _) = ap (λ (k : ℕ). 40 ∷ (word k ++ (bytes f ++ (41 ∷ [])))) (sym e)
+kind-bytes (signal n) k h = ap (λ (k : ℕ). 40 ∷ (keyword k ++ (inner (signal n) ++ (41 ∷ [])))) (sym h)
+kind-bytes (one j f) k (e, _, _) = ap (λ (k : ℕ). 40 ∷ (keyword k ++ (bytes f ++ (41 ∷ [])))) (sym e)
 kind-bytes (two j f g) k (e, _, _, _) =
-    ap (λ (k : ℕ). 40 ∷ (word k ++ (bytes f ++ (32 ∷ (bytes g ++ (41 ∷ [])))))) (sym e)
-    ∙ ap (λ (x : List ℕ). 40 ∷ (word k ++ x)) (sym (append-assoc (bytes f) (32 ∷ bytes g) (41 ∷ [])))
+    ap (λ (k : ℕ). 40 ∷ (keyword k ++ (bytes f ++ (32 ∷ (bytes g ++ (41 ∷ [])))))) (sym e)
+    ∙ ap (λ (x : List ℕ). 40 ∷ (keyword k ++ x)) (sym (append-assoc (bytes f) (32 ∷ bytes g) (41 ∷ [])))
 
 -- ── The operands of a kind, by how many forms it takes ──
 
@@ -135,11 +135,11 @@ true-bytes : (f : Form) (t : List ℕ) → f ≡ truth → bytes f ++ t ≡ text
 unfolding bytes
 true-bytes f t e = ap (λ (x : Form). bytes x ++ t) e
 
-pub open-bytes : (f : Form) (k : ℕ) (t : List ℕ) → OfKind k f → bytes f ++ t ≡ 40 ∷ (word k ++ (inner f ++ (41 ∷ t)))
+pub open-bytes : (f : Form) (k : ℕ) (t : List ℕ) → OfKind k f → bytes f ++ t ≡ 40 ∷ (keyword k ++ (inner f ++ (41 ∷ t)))
 open-bytes f k t h = ap (λ (x : List ℕ). x ++ t) (kind-bytes f k h) ∙ simp append-assoc
 
--- After the word of a kind only a form of that kind can stand.
-pub word-kind : (so k : ℕ) → T (elem k (kinds so)) → (f : Form) → Sorted so f → (x t : List ℕ) → 40 ∷ (word k ++ x) ≡ bytes f ++ t
+-- After the keyword of a kind only a form of that kind can stand.
+pub word-kind : (so k : ℕ) → T (elem k (kinds so)) → (f : Form) → Sorted so f → (x t : List ℕ) → 40 ∷ (keyword k ++ x) ≡ bytes f ++ t
     → OfKind k f × (x ≡ inner f ++ (41 ∷ t))
 word-kind so k m f sf x t e = go (view f so sf)
   where
@@ -147,9 +147,9 @@ word-kind so k m f sf x t e = go (view f so sf)
     go (inl (y, _)) = absurd (omega (arith, head-eq-of-cons-eq (e ∙ true-bytes f t y)))
     go (inr b) =
         let d = tail-eq-of-cons-eq (e ∙ open-bytes f (b .kind) t (b .is)) in
-        let j : b .kind ≡ k = sym (word-unique word (kinds so) (kinds-distinct so) k (b .kind) m (b .member) _ _ d) in (
+        let j : b .kind ≡ k = sym (word-unique keyword (kinds so) (kinds-distinct so) k (b .kind) m (b .member) _ _ d) in (
           subst (λ (i : ℕ). OfKind i f) j (b .is),
-          append-cancel-left (word k) _ _ (d ∙ ap (λ (i : ℕ). word i ++ (inner f ++ (41 ∷ t))) j),
+          append-cancel-left (keyword k) _ _ (d ∙ ap (λ (i : ℕ). keyword i ++ (inner f ++ (41 ∷ t))) j),
         )
 
 from-inner : (f g : Form) → InnerUnique f g → Unique f g

@@ -11,7 +11,7 @@ use Rattle.psl.specs.Table.{Part, boolean, formula, asFormula, partOf}
 use Rattle.text.specs.Text.{text}
 use Rattle.formula_lines.specs.Spelling.{spellB, spell, formulaLine}
 use Rattle.formula_lines.specs.Closing.{nodesB, nodes}
-use Rattle.formula_lines.specs.Inner.Form.{Form, truth, signal, one, two, word, shape, arity, leftSort, rightSort, kinds, Sorted, bytes, closed}
+use Rattle.formula_lines.specs.Inner.Form.{Form, truth, signal, one, two, keyword, shape, arity, leftSort, rightSort, kinds, Sorted, bytes, closed}
 use Rattle.text.specs.Inner.Words.{elem}
 use Rattle.formula_lines.proofs.FormLaw.{boolean-kinds, formula-kinds, form-unique}
 
@@ -122,14 +122,14 @@ as-formula (two k f g) (m, a, h, i) = two-formula f g (as-formula f) (as-formula
 -- ── Bytes ──
 
 bool-bytes : (b : BoolExpr) → bytes (boolForm b) ≡ spellB b
-unfolding bytes spellB word
+unfolding bytes spellB keyword
 bool-bytes btrue = refl
 bool-bytes (var k) = refl
 bool-bytes (bnot b) = rw (bool-bytes b)
 bool-bytes (band b c) = rw (bool-bytes b, bool-bytes c)
 
 pub form-bytes : (f : Formula) → bytes (form f) ≡ spell f
-unfolding bytes spell word
+unfolding bytes spell keyword
 form-bytes (weak b) = rw (bool-bytes b)
 form-bytes (strong b) = rw (bool-bytes b)
 form-bytes (fnot f) = rw (form-bytes f)

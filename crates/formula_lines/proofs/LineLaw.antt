@@ -22,10 +22,10 @@ use Rattle.text.specs.Reading.{long, breaks, spells}
 use Rattle.formula_lines.specs.FormulaAnswer.{largeSignal, formulaLimits, formulaRefusal, FormulaAnswer}
 use Rattle.text.specs.Inner.Places.{byteAt, Stands, Agree, Begins, Stops, StopsLine}
 use Rattle.formula_lines.specs.Inner.Form.{Form, truth, signal, one, two, arity, Sorted, bytes, closed, wide}
-use Rattle.formula_lines.specs.Inner.Reader.{FormOf, filled, FormStands, FormulaLine, WholeStands, WholeRead}
-use Rattle.formula_lines.specs.declared.Line.the-variants.{Nodes, Refused}
+use Rattle.formula_lines.specs.Inner.Reader.{FormOf, filled, FormStands, SpellsFormula, WholeStands, WholeRead}
+use Rattle.formula_lines.specs.declared.FormulaLine.the-variants.{Nodes, Refused}
 use Rattle.formula_lines.specs.declared.Read.{Read}
-use Rattle.formula_lines.specs.declared.Read.the-variants.{Got, No}
+use Rattle.formula_lines.specs.declared.Read.the-variants.{Found, FaultAt}
 use Rattle.text.proofs.PlaceLaw.{agree-self, stands-one, stands-join, stops-here, halts-first, begins-first, halts-after, stops-line, Nothing, stops-end}
 use Rattle.text.proofs.ReadingLaw.{breaks-at, front-sets}
 use Rattle.text.proofs.StoreLaw.{or-false-right, or-assoc}
@@ -70,7 +70,7 @@ Rest w = (f : Formula) × (w ≡ spell f ++ (41 ∷ []))
 abbrev Psl : List ℕ → Type 0
 Psl s = Stands (text "(psl ") s 0 5
 
-pub not-psl : {s : List ℕ} {p : ℕ} → Stops (λ w. w ≡ text "(psl ") s 0 p → StopsLine FormulaLine s 0 p
+pub not-psl : {s : List ℕ} {p : ℕ} → Stops (λ w. w ≡ text "(psl ") s 0 p → StopsLine SpellsFormula s 0 p
 not-psl a =
     stops-line (halts-first a (λ w e. (spell some ++ (41 ∷ []), (some, ap (λ (x : List ℕ). x ++ (spell some ++ (41 ∷ []))) e)))
     (λ s′ g. begins-first (λ w (f, e). (text "(psl ", spell f ++ (41 ∷ []), refl, e))))
@@ -79,7 +79,7 @@ not-psl a =
     some = weak btrue
 
 module _ {s : List ℕ} (o : Psl s) where
-  pub no-form : {p : ℕ} → Stops (FormOf 1) s 5 p → StopsLine FormulaLine s 0 p
+  pub no-form : {p : ℕ} → Stops (FormOf 1) s 5 p → StopsLine SpellsFormula s 0 p
   no-form {p} a = halts-after o (stops-line (halts-first {L = Rest} a inc (λ s′ g. begins-first dec))) (λ w (f, e). (f, ap (λ (x : List ℕ). text "(psl " ++ x) e)) rest
     where
       inc : (w : List ℕ) → FormOf 1 w → (x : List ℕ) × Rest (w ++ x)
@@ -90,7 +90,7 @@ module _ {s : List ℕ} (o : Psl s) where
       dec : (w : List ℕ) → Rest w → Begins (FormOf 1) w
       dec w (f, e) = (spell f, 41 ∷ [], (form f, form-sorted f, sym (form-bytes f)), e)
 
-      rest : (s′ : List ℕ) → Agree (suc p) s s′ → FormulaLine (text "(psl " ++ drop 5 s′) → Rest (drop 5 s′)
+      rest : (s′ : List ℕ) → Agree (suc p) s s′ → SpellsFormula (text "(psl " ++ drop 5 s′) → Rest (drop 5 s′)
       rest s′ g (f, e) = (f, append-cancel-left (text "(psl ") _ _ e)
 
   module _ {f : Form} (sf : Sorted 1 f) {next nodes : ℕ} {large : Bool} {l l′ : List ℕ} (a : FormStands f s 5 0 next nodes large l l′) where
@@ -103,22 +103,22 @@ module _ {s : List ℕ} (o : Psl s) where
     spelled : Stands (spell g) s 5 next
     spelled = subst (λ (w : List ℕ). Stands w s 5 next) (ap bytes (sym same) ∙ form-bytes g) (a .stands)
 
-    pub not-closed : (byteAt s next ≡ 41 → ⊥) → StopsLine FormulaLine s 0 next
+    pub not-closed : (byteAt s next ≡ 41 → ⊥) → StopsLine SpellsFormula s 0 next
     not-closed z =
         halts-after (stands-join o spelled) (stops-here {L = λ w. w ≡ 41 ∷ []} 41 (a .stands .within) z (λ w e. ([], e)) (41 ∷ []) refl)
         (λ w e. (g, ap (λ (x : List ℕ). text "(psl " ++ (spell g ++ x)) e)) dec
       where
-        dec : (s′ : List ℕ) → Agree (suc next) s s′ → FormulaLine (text "(psl " ++ spell g ++ drop next s′) → Begins (λ w. w ≡ 41 ∷ []) (drop next s′)
+        dec : (s′ : List ℕ) → Agree (suc next) s s′ → SpellsFormula (text "(psl " ++ spell g ++ drop next s′) → Begins (λ w. w ≡ 41 ∷ []) (drop next s′)
         dec s′ i (h, e) = (41 ∷ [], [], refl, spell-unique g h (drop next s′) (41 ∷ []) (append-cancel-left (text "(psl ") _ _ e) .1)
 
     module _ (e : byteAt s next ≡ 41) (i : next < length s) where
       line : Stands (formulaLine g) s 0 (next + 1)
       line = subst (λ (w : List ℕ). Stands w s 0 (next + 1)) (simp append-assoc) (stands-join (stands-join o spelled) (stands-one 41 e i))
 
-      pub tail-left : (next + 1 ≡ length s → ⊥) → StopsLine FormulaLine s 0 (next + 1)
+      pub tail-left : (next + 1 ≡ length s → ⊥) → StopsLine SpellsFormula s 0 (next + 1)
       tail-left z = halts-after line (stops-end s (next + 1) (omega arith)) (λ w d. (g, ap (λ (x : List ℕ). formulaLine g ++ x) d ∙ append-nil (formulaLine g))) dec
         where
-          dec : (s′ : List ℕ) → Agree (suc (next + 1)) s s′ → FormulaLine (formulaLine g ++ drop (next + 1) s′) → Nothing (drop (next + 1) s′)
+          dec : (s′ : List ℕ) → Agree (suc (next + 1)) s s′ → SpellsFormula (formulaLine g ++ drop (next + 1) s′) → Nothing (drop (next + 1) s′)
           dec s′ j (h, d) = line-unique g h (drop (next + 1) s′) [] (d ∙ sym (append-nil (formulaLine h))) .1
 
       pub line-read : next + 1 ≡ length s → (f : Formula) × WholeStands f s nodes large l l′
@@ -141,7 +141,7 @@ module _ {s : List ℕ} (o : Psl s) where
 pub too-long : (s l : List ℕ) → mostBytes < length s → FormulaAnswer s l (Refused (refused 17)) l
 too-long s l h = (record { reading = long h; reason = refl }, refl)
 
-pub no-formula : (s l : List ℕ) {p : ℕ} → length s ≤ mostBytes → StopsLine FormulaLine s 0 p → FormulaAnswer s l (Refused (refused 18)) l
+pub no-formula : (s l : List ℕ) {p : ℕ} → length s ≤ mostBytes → StopsLine SpellsFormula s 0 p → FormulaAnswer s l (Refused (refused 18)) l
 no-formula s l {p} h a = (record { reading = breaks h p (breaks-at (λ w x. x) (λ f. (f, refl)) a); reason = refl }, refl)
 
 -- The line spells f; a and b are the list of the reading without room.
@@ -180,8 +180,8 @@ module _ {s : List ℕ} (l : List ℕ) {f : Formula} {nodes : ℕ} {large : Bool
         )
           where
             go : (r : Read) → WholeRead s l m r → m ≡ filled l (table f)
-            go (No p) z = absurd (z .none s (agree-self (suc p) s) (f, x .is))
-            go (Got next n w) (g, z) =
+            go (FaultAt p) z = absurd (z .none s (agree-self (suc p) s) (f, x .is))
+            go (Found next n w) (g, z) =
                 let d = formula-injective f g (sym (x .is) ∙ z .is) in
                 z .written (z .signals ∙ ap (λ (u : Formula). largeSignal (table u)) (sym d) ∙ sym (x .signals) ∙ j)
                 ∙ ap (λ (u : Formula). filled l (table u)) (sym d)

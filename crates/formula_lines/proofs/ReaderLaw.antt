@@ -17,9 +17,9 @@ use Rattle.text.specs.Spelling.{digits}
 use Rattle.text.specs.Inner.Places.{byteAt, Stands, Agree, Language, Begins, Halts, Stops}
 use Rattle.text.specs.Inner.Number.{Numeral, Numbered}
 use Rattle.text.specs.Inner.Scan.{NumberStands}
-use Rattle.formula_lines.specs.Inner.Form.{Form, truth, signal, one, two, word, arity, leftSort, rightSort, kinds, Sorted, OfKind, bytes, inner, closed, wide}
+use Rattle.formula_lines.specs.Inner.Form.{Form, truth, signal, one, two, keyword, arity, leftSort, rightSort, kinds, Sorted, OfKind, bytes, inner, closed, wide}
 use Rattle.text.specs.Inner.Words.{elem}
-use Rattle.formula_lines.specs.Inner.Reader.{WordOf, Known, FormOf, OperandsOf, filled, FormStands, Ended, OperandsStand}
+use Rattle.formula_lines.specs.Inner.Reader.{KeywordOf, InBrackets, FormOf, OperandsOf, filled, FormStands, Ended, OperandsStand}
 use Rattle.text.proofs.PlaceLaw.{agree-byte, byte-drop, stands-one, stands-join, stops-here, halts-first, begins-first, halts-after}
 use Rattle.text.proofs.ScanLaw.{no-digit-agree}
 use Rattle.text.proofs.StoreLaw.{or-false, sets-sets}
@@ -50,7 +50,7 @@ module _ (s : List ℕ) (at : ℕ) (z : byteAt s at ≡ 40 → ⊥) where
         where
           go : View so f → (x : List ℕ) × (w ≡ 40 ∷ x)
           go (inl (_, y)) = absurd (n y)
-          go (inr b) = (word (b .kind) ++ (inner f ++ (41 ∷ [])), e ∙ kind-bytes f (b .kind) (b .is))
+          go (inr b) = (keyword (b .kind) ++ (inner f ++ (41 ∷ [])), e ∙ kind-bytes f (b .kind) (b .is))
 
   pub true-part : {p : ℕ} → Stops (λ w. w ≡ text "true") s at p → Stops (FormOf 0) s at p
   unfolding bytes
@@ -126,11 +126,11 @@ module _ (s : List ℕ) (at n next v : ℕ) (l : List ℕ) (h : n ≤ at) (a : N
 abbrev pub Open : List ℕ → ℕ → Type 0
 Open s at = Stands (40 ∷ []) s at (at + 1)
 
-pub no-word : {s : List ℕ} {at : ℕ} (so : ℕ) {p : ℕ} → Open s at → Halts (λ w. (w ≡ []) ⊎ WordOf (kinds so) w) (Begins (WordOf (kinds so))) s (at + 1) p
+pub no-word : {s : List ℕ} {at : ℕ} (so : ℕ) {p : ℕ} → Open s at → Halts (λ w. (w ≡ []) ⊎ KeywordOf (kinds so) w) (Begins (KeywordOf (kinds so))) s (at + 1) p
     → Stops (FormOf so) s at p
 no-word so o a = halts-after o (halts-first {L = λ w. FormOf so (40 ∷ w)} {R = λ x. Begins (FormOf so) (40 ∷ x)} a inc (λ s′ g. dec)) (λ w l. l) (λ s′ g b. b)
   where
-    inc : (w : List ℕ) → (w ≡ []) ⊎ WordOf (kinds so) w → (x : List ℕ) × FormOf so (40 ∷ (w ++ x))
+    inc : (w : List ℕ) → (w ≡ []) ⊎ KeywordOf (kinds so) w → (x : List ℕ) × FormOf so (40 ∷ (w ++ x))
     inc w (inl e) =
         let (x, d) = sample-open so in
         (x, (sample so, sample-sorted so, ap (λ (y : List ℕ). 40 ∷ (y ++ x)) e ∙ sym d))
@@ -140,21 +140,21 @@ no-word so o a = halts-after o (halts-first {L = λ w. FormOf so (40 ∷ w)} {R 
           (f, kind-sorted f k so m h, ap (λ (y : List ℕ). 40 ∷ (y ++ (inner f ++ (41 ∷ [])))) e ∙ sym (kind-bytes f k h)),
         )
 
-    dec : {x : List ℕ} → Begins (FormOf so) (40 ∷ x) → Begins (WordOf (kinds so)) x
+    dec : {x : List ℕ} → Begins (FormOf so) (40 ∷ x) → Begins (KeywordOf (kinds so)) x
     dec {x} (w, t, (f, sf, e), d) = go (view f so sf)
       where
         i : 40 ∷ x ≡ bytes f ++ t
         i = d ∙ ap (λ (y : List ℕ). y ++ t) e
 
-        go : View so f → Begins (WordOf (kinds so)) x
+        go : View so f → Begins (KeywordOf (kinds so)) x
         go (inl (y, _)) = unfold bytes in absurd (omega (arith, head-eq-of-cons-eq (i ∙ ap (λ (g : Form). bytes g ++ t) y)))
-        go (inr b) = (word (b .kind), inner f ++ (41 ∷ t), (b .kind, b .member, refl), tail-eq-of-cons-eq (i ∙ open-bytes f (b .kind) t (b .is)))
+        go (inr b) = (keyword (b .kind), inner f ++ (41 ∷ t), (b .kind, b .member, refl), tail-eq-of-cons-eq (i ∙ open-bytes f (b .kind) t (b .is)))
 
--- The bracket and the word of kind k have been read.
+-- The bracket and the keyword of kind k have been read.
 pub record Entered (s : List ℕ) (at so k next : ℕ) : Type 0 where
   pub opened : Open s at
   pub member : T (elem k (kinds so))
-  pub named : Stands (word k) s (at + 1) next
+  pub named : Stands (keyword k) s (at + 1) next
 
 module _ {s : List ℕ} {at so k next : ℕ} (E : Entered s at so k next) where
   m : T (elem k (kinds so))
@@ -163,10 +163,10 @@ module _ {s : List ℕ} {at so k next : ℕ} (E : Entered s at so k next) where
   pub no-operands : {p : ℕ} → Stops (OperandsOf k) s next p → Stops (FormOf so) s at p
   no-operands {p} b = halts-after (stands-join (E .opened) (E .named)) b inc dec
     where
-      inc : (w : List ℕ) → OperandsOf k w → FormOf so (40 ∷ (word k ++ w))
-      inc w (f, h, e) = (f, kind-sorted f k so m h, ap (λ (y : List ℕ). 40 ∷ (word k ++ y)) e ∙ sym (kind-bytes f k h))
+      inc : (w : List ℕ) → OperandsOf k w → FormOf so (40 ∷ (keyword k ++ w))
+      inc w (f, h, e) = (f, kind-sorted f k so m h, ap (λ (y : List ℕ). 40 ∷ (keyword k ++ y)) e ∙ sym (kind-bytes f k h))
 
-      dec : (s′ : List ℕ) → Agree (suc p) s s′ → Begins (FormOf so) (40 ∷ (word k ++ drop next s′)) → Begins (OperandsOf k) (drop next s′)
+      dec : (s′ : List ℕ) → Agree (suc p) s s′ → Begins (FormOf so) (40 ∷ (keyword k ++ drop next s′)) → Begins (OperandsOf k) (drop next s′)
       dec s′ g (w, t, (f, sf, e), d) =
           let (h, i) = word-kind so k m f sf (drop next s′) t (d ∙ ap (λ (y : List ℕ). y ++ t) e) in
           (inner f ++ (41 ∷ []), t, (f, h, refl), i ∙ sym (append-assoc (inner f) (41 ∷ []) t))
@@ -219,7 +219,7 @@ abbrev Second : ℕ → Language
 Second k w = (g : Form) × Sorted (rightSort k) g × (w ≡ 32 ∷ (bytes g ++ (41 ∷ [])))
 
 module _ {s : List ℕ} {at : ℕ} (k : ℕ) where
-  pub first-no : Known k → (arity k ≡ 0 → ⊥) → {p : ℕ} → Stops (FormOf (leftSort k)) s at p → Stops (OperandsOf k) s at p
+  pub first-no : InBrackets k → (arity k ≡ 0 → ⊥) → {p : ℕ} → Stops (FormOf (leftSort k)) s at p → Stops (OperandsOf k) s at p
   first-no (so, m) z {p} a = go (arity k) refl (kind-fact so k m .most)
     where
       go : (n : ℕ) → arity k ≡ n → arity k ≤ 2 → Stops (OperandsOf k) s at p

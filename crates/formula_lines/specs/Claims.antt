@@ -10,7 +10,7 @@ use Rattle.psl.specs.Check.{pslRefusal}
 use Rattle.formula_lines.specs.Spelling.{formulaLine}
 use Rattle.formula_lines.specs.Closing.{table}
 use Rattle.formula_lines.specs.FormulaAnswer.{formulaLimits, FormulaAnswer}
-use Rattle.formula_lines.specs.declared.Line.{Line}
+use Rattle.formula_lines.specs.declared.FormulaLine.{FormulaLine}
 
 pub record Claims : Type 1 where
   -- No two formulas have one line.
@@ -19,4 +19,4 @@ pub record Claims : Type 1 where
   pub stands-for : (f : Formula) → formulaOf (numbersOf (table f)) ≡ f
   pub accepted : (f : Formula) → formulaLimits f ≡ none → pslRefusal (numbersOf (table f)) ≡ none
   -- The reader has one answer, and leaves one content in the lent list.
-  pub formula-answer : (s l : List ℕ) (r r′ : Line) (m m′ : List ℕ) → FormulaAnswer s l r m → FormulaAnswer s l r′ m′ → (r ≡ r′) × (m ≡ m′)
+  pub formula-answer : (s l : List ℕ) (r r′ : FormulaLine) (m m′ : List ℕ) → FormulaAnswer s l r m → FormulaAnswer s l r′ m′ → (r ≡ r′) × (m ≡ m′)

@@ -17,8 +17,8 @@ use Rattle.formula_lines.specs.Spelling.{formulaLine}
 use Rattle.formula_lines.specs.Closing.{table}
 use Rattle.text.specs.Limits.{front}
 use Rattle.text.specs.Reading.{Takes, Refuses}
-use Rattle.formula_lines.specs.declared.Line.{Line}
-use Rattle.formula_lines.specs.declared.Line.the-variants.{Nodes, Refused}
+use Rattle.formula_lines.specs.declared.FormulaLine.{FormulaLine}
+use Rattle.formula_lines.specs.declared.FormulaLine.the-variants.{Nodes, Refused}
 
 -- Some node is a variable whose signal is not below `signals`.
 abbrev pub largeSignal : List Node → Bool
@@ -35,7 +35,7 @@ formulaRefusal room f = orElse (formulaLimits f) (unless (leb (3 * length (table
 
 -- The answer and the list m at exit, for the line s and the list l at entry: the formula's table in front of the list, or the refusal and the list as
 -- it was.
-abbrev pub FormulaAnswer : List ℕ → List ℕ → Line → List ℕ → Type 0
+abbrev pub FormulaAnswer : List ℕ → List ℕ → FormulaLine → List ℕ → Type 0
 FormulaAnswer s l (Nodes n) m =
     (f : Formula) × Takes formulaLine (formulaRefusal (length l)) s f × (n ≡ length (table f)) × (m ≡ front (numbersOf (table f)) l)
 FormulaAnswer s l (Refused e) m = Refuses formulaLine (formulaRefusal (length l)) s e × (m ≡ l)

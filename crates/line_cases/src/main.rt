@@ -2,7 +2,7 @@
 // each of the loop, a node line its bytes; a refusal is 10,000 and its number.
 ghost use Prim.Native.Nat.{_≤_};
 ghost use lib.ListN.{length};
-use formula_lines::Line;
+use formula_lines::FormulaLine;
 use formula_lines::read_formula;
 use libc::STDOUT_FILENO;
 use node_lines::NodeLine;
@@ -15,8 +15,8 @@ use trace_lines::read_trace;
 
 fn formula(line: &[u8], out: &mut [u16]) -> u64 {
     match read_formula(line, out) {
-        Line::Nodes(n) => n as u64,
-        Line::Refused(x) => 10000 + (x.0 as u64),
+        FormulaLine::Nodes(n) => n as u64,
+        FormulaLine::Refused(x) => 10000 + (x.0 as u64),
     }
 }
 

@@ -1,4 +1,4 @@
 // A run on an empty input.
 fn main() {
-    turns::whole();
+    turns::take_turns();
 }

@@ -1,4 +1,4 @@
 // A run on a lone byte 10.
 fn main() {
-    turns::whole();
+    turns::take_turns();
 }

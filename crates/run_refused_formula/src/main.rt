@@ -1,4 +1,4 @@
 // A run whose first line is refused: it stops there.
 fn main() {
-    turns::whole();
+    turns::take_turns();
 }

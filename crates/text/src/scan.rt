@@ -65,7 +65,7 @@ pub fn push(c: Count, digit: u64, limit: u64) -> Count
 pub enum Number {
     Small { value: u64, next: usize },
     Large(usize),
-    No(usize),
+    FaultAt(usize),
 }
 
 // A decimal number without leading zeros.
@@ -75,11 +75,11 @@ pub fn read_number(s: &[u8], at: usize, limit: u64) -> Number
 {
     let first = digit(s, at);
     if 9 < first {
-        return Number::No(at);
+        return Number::FaultAt(at);
     }
     if first == 0 {
         if digit(s, at + 1) < 10 {
-            return Number::No(at + 1);
+            return Number::FaultAt(at + 1);
         }
         return Number::Small {
             value: 0,

@@ -16,7 +16,7 @@ use Rattle.text.specs.Inner.Scan.{NumberStands}
 use Rattle.trace_lines.specs.TraceAnswer.{largeLetter}
 use Rattle.trace_lines.specs.Inner.LettersReader.{LetterStands, further, listed, Any, Some, Spelled, LettersStand, LettersRead}
 use Rattle.trace_lines.specs.declared.Letters.{Letters}
-use Rattle.trace_lines.specs.declared.Letters.the-variants.{Got, No}
+use Rattle.trace_lines.specs.declared.Letters.the-variants.{Found, FaultAt}
 use Rattle.text.proofs.PlaceLaw.{agree-byte, byte-drop, stands-one, stands-join, halts-first, halts-after}
 use Rattle.text.proofs.NumberLaw.{digits-unique, digits-first, ending-no-digit, ending-unique}
 use Rattle.text.proofs.ScanLaw.{no-digit-agree}
@@ -130,7 +130,7 @@ one-more {s} {at} {n} {i} {count} {next} {more} {large} {wide} {l} {l′} {l″}
     dec h s′ g (w, t, (y ∷ ys, _, d), u) = same-letter (a .stands) h g y ys t (tail-eq-of-cons-eq (u ∙ ap (λ (z : List ℕ). z ++ t) d))
 
 pub letters-end : {s : List ℕ} {at n i count : ℕ} {large : Bool} {l l′ : List ℕ} → SoFar s at n i count large l l′ → byteAt s i ≡ 41 → i < length s
-    → LettersRead further Any s at n l l′ (Got (i + 1) count large)
+    → LettersRead further Any s at n l l′ (Found (i + 1) count large)
 letters-end {s} {at} {n} {i} {count} {large} {l} {l′} f e h =
     let same = append-nil (f .letters) in (
       f .letters,
@@ -163,7 +163,7 @@ module _ {s : List ℕ} {at next count x : ℕ} {large : Bool} {l l′ : List �
       dec s′ g (w, t, (y ∷ ys, _, d), u) = same-letter (a .stands) (b .after) g y ys t (u ∙ ap (λ (z : List ℕ). z ++ t) d)
 
   pub first-then : {ys : List ℕ} {end all : ℕ} {wide : Bool} {l″ : List ℕ} → LettersStand (further ys) ys s next count end all wide l′ l″
-      → (b : Bool) → b ≡ (large || wide) → LettersRead listed Some s at 0 l l″ (Got end all b)
+      → (b : Bool) → b ≡ (large || wide) → LettersRead listed Some s at 0 l l″ (Found end all b)
   first-then {ys} {end} {all} {wide} {l″} c b e = (
     x ∷ ys,
     tt,
@@ -178,13 +178,13 @@ module _ {s : List ℕ} {at next count x : ℕ} {large : Bool} {l l′ : List �
     },
   )
 
-pub empty-list : {s : List ℕ} {at : ℕ} {l : List ℕ} → byteAt s at ≡ 41 → at < length s → LettersRead listed Any s at 0 l l (Got (at + 1) 0 false)
+pub empty-list : {s : List ℕ} {at : ℕ} {l : List ℕ} → byteAt s at ≡ 41 → at < length s → LettersRead listed Any s at 0 l l (Found (at + 1) 0 false)
 empty-list e h =
     ([], tt, record { stands = stands-one 41 e h; few = omega arith; counted = refl; wide = refl; written = λ _. refl })
 
 pub some-list : (s : List ℕ) (at : ℕ) (l l′ : List ℕ) → (byteAt s at ≡ 41 → ⊥) → (r : Letters) → LettersRead listed Some s at 0 l l′ r → LettersRead listed Any s at 0 l l′ r
-some-list s at l l′ z (Got next count large) (xs, _, a) = (xs, tt, a)
-some-list s at l l′ z (No p) a = halts-first a (λ w (xs, _, e). ([], (xs, tt, append-nil w ∙ e))) dec
+some-list s at l l′ z (Found next count large) (xs, _, a) = (xs, tt, a)
+some-list s at l l′ z (FaultAt p) a = halts-first a (λ w (xs, _, e). ([], (xs, tt, append-nil w ∙ e))) dec
   where
     dec : (s′ : List ℕ) → Agree (suc p) s s′ → Begins (Spelled listed Any) (drop at s′) → Begins (Spelled listed Some) (drop at s′)
     dec s′ g (w, t, ([], _, e), d) = absurd (z (agree-byte at (omega (arith, a .after)) g ∙ byte-drop s′ at 41 t (d ∙ ap (λ (y : List ℕ). y ++ t) e)))

@@ -18,7 +18,7 @@ use Rattle.trace_lines.specs.TraceAnswer.{largeLetter, traceLimits, trac
 use Rattle.text.specs.Inner.Places.{byteAt, Stands, Agree, Language, Begins, Stops, StopsLine}
 use Rattle.trace_lines.specs.Inner.LettersReader.{further, listed, Any, Some, Spelled, LettersStand, finiteRest, lassoRest, wholeLine, ListsStand, ListsRead}
 use Rattle.trace_lines.specs.declared.Lists.{Lists}
-use Rattle.trace_lines.specs.declared.Lists.the-variants.{Got, No}
+use Rattle.trace_lines.specs.declared.Lists.the-variants.{Found, FaultAt}
 use Rattle.trace_lines.specs.declared.TraceLine.the-variants.{Letters, Refused}
 use Rattle.text.proofs.ReadingLaw.{breaks-at, front-sets}
 use Rattle.text.proofs.StoreLaw.{or-false, or-false-right, and-false}
@@ -50,7 +50,7 @@ module _ {s xs : List ℕ} {at next count : ℕ} {large : Bool} {l l′ : List �
       dec {x} (lead, [], e) = ending-unique xs lead x [] (e ∙ sym (append-nil (further lead))) .1
       dec (lead, y ∷ loop, e) = absurd e
 
-  pub finite-read : next ≡ length s → (m : List ℕ) → ListsRead finiteRest s at l m l′ m (Got count 0 large)
+  pub finite-read : next ≡ length s → (m : List ℕ) → ListsRead finiteRest s at l m l′ m (Found count 0 large)
   finite-read z m = (
     xs,
     [],
@@ -128,7 +128,7 @@ module _ {s : List ℕ} (xs : List ℕ) {at next : ℕ} (a : Stands (listed xs) 
 pub lasso-read : {s xs : List ℕ} {at next count : ℕ} {large : Bool} {l l′ : List ℕ} → LettersStand (listed xs) xs s at 0 next count large l l′
     → {mid : ℕ} → Stands (text " (") s next mid → (ys : List ℕ) → Some ys → {end all : ℕ} {wide : Bool} {m m′ : List ℕ}
     → LettersStand (listed ys) ys s mid 0 end all wide m m′ → byteAt s end ≡ 41 → end < length s → end + 1 ≡ length s
-    → (b : Bool) → b ≡ (large || wide) → ListsRead lassoRest s at l m l′ m′ (Got count all b)
+    → (b : Bool) → b ≡ (large || wide) → ListsRead lassoRest s at l m l′ m′ (Found count all b)
 lasso-read a o [] h c e i z b u = absurd h
 lasso-read {xs = xs} {large = large} a o (y ∷ ys) h {wide = wide} c e i z b u = (
   xs,
@@ -156,9 +156,9 @@ not-both lead loop e = omega (arith, head-eq-of-cons-eq (tail-eq-of-cons-eq e))
 
 module _ (s l m l′ m′ : List ℕ) where
   pub finite-line : Stands (text "(finite") s 0 7 → (r : Lists) → ListsRead finiteRest s 7 l m l′ m′ r → ListsRead wholeLine s 0 l m l′ m′ r
-  finite-line o (Got a b large) (lead, [], e, x) = (lead, [], o .is ∙ ap (λ (y : List ℕ). text "(finite" ++ y) e, x)
-  finite-line o (Got a b large) (lead, z ∷ loop, e, x) = absurd e
-  finite-line o (No p) b = halts-after o b inc (λ s′ g. dec)
+  finite-line o (Found a b large) (lead, [], e, x) = (lead, [], o .is ∙ ap (λ (y : List ℕ). text "(finite" ++ y) e, x)
+  finite-line o (Found a b large) (lead, z ∷ loop, e, x) = absurd e
+  finite-line o (FaultAt p) b = halts-after o b inc (λ s′ g. dec)
     where
       inc : (w : List ℕ) → Both finiteRest w → Both wholeLine (text "(finite" ++ w)
       inc w (lead, [], e) = (lead, [], ap (λ (y : List ℕ). text "(finite" ++ y) e)
@@ -169,9 +169,9 @@ module _ (s l m l′ m′ : List ℕ) where
       dec {x} (lead, z ∷ loop, e) = absurd (not-both x _ e)
 
   pub lasso-line : Stands (text "(lasso (") s 0 8 → (r : Lists) → ListsRead lassoRest s 8 l m l′ m′ r → ListsRead wholeLine s 0 l m l′ m′ r
-  lasso-line o (Got a b large) (lead, [], e, x) = absurd e
-  lasso-line o (Got a b large) (lead, z ∷ loop, e, x) = (lead, z ∷ loop, o .is ∙ ap (λ (y : List ℕ). text "(lasso (" ++ y) e, x)
-  lasso-line o (No p) b = halts-after o b inc (λ s′ g. dec)
+  lasso-line o (Found a b large) (lead, [], e, x) = absurd e
+  lasso-line o (Found a b large) (lead, z ∷ loop, e, x) = (lead, z ∷ loop, o .is ∙ ap (λ (y : List ℕ). text "(lasso (" ++ y) e, x)
+  lasso-line o (FaultAt p) b = halts-after o b inc (λ s′ g. dec)
     where
       inc : (w : List ℕ) → Both lassoRest w → Both wholeLine (text "(lasso (" ++ w)
       inc w (lead, [], e) = absurd e
@@ -282,8 +282,8 @@ module _ {s : List ℕ} (l m lead loop : List ℕ) {a b : ℕ} {large : Bool} {c
             )
           where
             go : (r : Lists) → ListsRead wholeLine s 0 l m l′ m′ r → (l′ ≡ sets l 0 lead) × (m′ ≡ sets m 0 loop)
-            go (No p) z = absurd (z .none s (agree-self (suc p) s) (lead, loop, e))
-            go (Got p q w) (lead′, loop′, f, z) =
+            go (FaultAt p) z = absurd (z .none s (agree-self (suc p) s) (lead, loop, e))
+            go (Found p q w) (lead′, loop′, f, z) =
                 let (u, v) = trace-injective lead loop lead′ loop′ (sym e ∙ f) in
                 let (y, t) = z .written (z .wide ∙ ap (λ (i : List ℕ). largeLetter i || largeLetter loop′) (sym u) ∙ ap (λ (i : List ℕ). largeLetter lead || largeLetter i) (sym v) ∙ small) in
                 (y ∙ ap (sets l 0) (sym u), t ∙ ap (sets m 0) (sym v))

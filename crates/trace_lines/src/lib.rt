@@ -13,7 +13,7 @@ ghost use Prim.Native.Nat.{ℕ, _≤_};
 ghost use lib.ListN.{length, set};
 ghost use Rattle.text.specs.Limits.{mostBytes};
 ghost use Rattle.trace_lines.specs.TraceAnswer.{TraceAnswer};
-ghost use Rattle.text.specs.Inner.Places.{Fits};
+ghost use Rattle.text.specs.Inner.Places.{CursorIn};
 ghost use Rattle.trace_lines.specs.Inner.LettersReader.{LetterRead, LettersRead, further, listed, Any, Some, ListsRead, finiteRest, lassoRest, wholeLine};
 
 // The largest letter, and the most letters of a trace.
@@ -32,29 +32,29 @@ fn put_letter(out: &mut [Letter], at: usize, v: Letter)
 
 // Letters that were read: where they end, the count of letters then, and whether one is too large. Or where none can follow.
 enum Letters {
-    Got {
+    Found {
         next: usize,
         count: usize,
         large: bool,
     },
-    No(usize),
+    FaultAt(usize),
 }
 
 // A letter, stored as letter n.
 fn read_letter(s: &[u8], at: usize, out: &mut [Letter], n: usize) -> Letters
-    requires { ⌜ Fits (now s) at n ⌝ }
+    requires { ⌜ CursorIn (now s) at n ⌝ }
     ensures { λ r. ⌜ LetterRead (now (s .entry)) at n (now (out .entry)) (now (out .exit)) r ⌝ }
 {
     match read_number(s, at, LARGEST_LETTER) {
-        Number::No(p) => Letters::No(p),
-        Number::Large(next) => Letters::Got {
+        Number::FaultAt(p) => Letters::FaultAt(p),
+        Number::Large(next) => Letters::Found {
             next,
             count: n + 1,
             large: true,
         },
         Number::Small { value, next } => {
             put_letter(out, n, value as u32);
-            Letters::Got {
+            Letters::Found {
                 next,
                 count: n + 1,
                 large: false,
@@ -65,7 +65,7 @@ fn read_letter(s: &[u8], at: usize, out: &mut [Letter], n: usize) -> Letters
 
 // Further letters up to the closing bracket, a space before each.
 fn read_further(s: &[u8], at: usize, out: &mut [Letter], n: usize) -> Letters
-    requires { ⌜ Fits (now s) at n ⌝ }
+    requires { ⌜ CursorIn (now s) at n ⌝ }
     ensures { λ r. ⌜ LettersRead further Any (now (s .entry)) at n (now (out .entry)) (now (out .exit)) r ⌝ }
 {
     let mut i = at;
@@ -73,10 +73,10 @@ fn read_further(s: &[u8], at: usize, out: &mut [Letter], n: usize) -> Letters
     let mut large = false;
     while byte(s, i) == 32 {
         match read_letter(s, i + 1, out, count) {
-            Letters::No(p) => {
-                return Letters::No(p);
+            Letters::FaultAt(p) => {
+                return Letters::FaultAt(p);
             }
-            Letters::Got {
+            Letters::Found {
                 next,
                 count: more,
                 large: wide,
@@ -88,9 +88,9 @@ fn read_further(s: &[u8], at: usize, out: &mut [Letter], n: usize) -> Letters
         }
     }
     if byte(s, i) != 41 {
-        return Letters::No(i);
+        return Letters::FaultAt(i);
     }
-    Letters::Got {
+    Letters::Found {
         next: i + 1,
         count,
         large,
@@ -99,18 +99,18 @@ fn read_further(s: &[u8], at: usize, out: &mut [Letter], n: usize) -> Letters
 
 // The letters of a list after its opening bracket, at least one.
 fn read_some(s: &[u8], at: usize, out: &mut [Letter]) -> Letters
-    requires { ⌜ Fits (now s) at 0 ⌝ }
+    requires { ⌜ CursorIn (now s) at 0 ⌝ }
     ensures { λ r. ⌜ LettersRead listed Some (now (s .entry)) at 0 (now (out .entry)) (now (out .exit)) r ⌝ }
 {
     match read_letter(s, at, out, 0) {
-        Letters::No(p) => Letters::No(p),
-        Letters::Got { next, count, large } => match read_further(s, next, out, count) {
-            Letters::No(p) => Letters::No(p),
-            Letters::Got {
+        Letters::FaultAt(p) => Letters::FaultAt(p),
+        Letters::Found { next, count, large } => match read_further(s, next, out, count) {
+            Letters::FaultAt(p) => Letters::FaultAt(p),
+            Letters::Found {
                 next: end,
                 count: all,
                 large: wide,
-            } => Letters::Got {
+            } => Letters::Found {
                 next: end,
                 count: all,
                 large: either(large, wide),
@@ -121,11 +121,11 @@ fn read_some(s: &[u8], at: usize, out: &mut [Letter]) -> Letters
 
 // The same, perhaps none.
 fn read_list(s: &[u8], at: usize, out: &mut [Letter]) -> Letters
-    requires { ⌜ Fits (now s) at 0 ⌝ }
+    requires { ⌜ CursorIn (now s) at 0 ⌝ }
     ensures { λ r. ⌜ LettersRead listed Any (now (s .entry)) at 0 (now (out .entry)) (now (out .exit)) r ⌝ }
 {
     if byte(s, at) == 41 {
-        return Letters::Got {
+        return Letters::Found {
             next: at + 1,
             count: 0,
             large: false,
@@ -136,26 +136,26 @@ fn read_list(s: &[u8], at: usize, out: &mut [Letter]) -> Letters
 
 // How many letters the two lists have, and whether one is too large. Or where no line can follow.
 enum Lists {
-    Got {
+    Found {
         lead: usize,
         cycle: usize,
         large: bool,
     },
-    No(usize),
+    FaultAt(usize),
 }
 
 // After `(finite`.
 fn read_finite(s: &[u8], at: usize, lead: &mut [Letter]) -> Lists
-    requires { ⌜ Fits (now s) at 0 ⌝ }
+    requires { ⌜ CursorIn (now s) at 0 ⌝ }
     ensures { λ r. ⌜ ((m : List ℕ) → ListsRead finiteRest (now (s .entry)) at (now (lead .entry)) m (now (lead .exit)) m r) ⌝ }
 {
     match read_further(s, at, lead, 0) {
-        Letters::No(p) => Lists::No(p),
-        Letters::Got { next, count, large } => {
+        Letters::FaultAt(p) => Lists::FaultAt(p),
+        Letters::Found { next, count, large } => {
             if next != s.len() {
-                return Lists::No(next);
+                return Lists::FaultAt(next);
             }
-            Lists::Got {
+            Lists::Found {
                 lead: count,
                 cycle: 0,
                 large,
@@ -166,30 +166,30 @@ fn read_finite(s: &[u8], at: usize, lead: &mut [Letter]) -> Lists
 
 // After `(lasso (`.
 fn read_lasso(s: &[u8], at: usize, lead: &mut [Letter], cycle: &mut [Letter]) -> Lists
-    requires { ⌜ Fits (now s) at 0 ⌝ }
+    requires { ⌜ CursorIn (now s) at 0 ⌝ }
     ensures { λ r. ⌜ ListsRead lassoRest (now (s .entry)) at (now (lead .entry)) (now (cycle .entry)) (now (lead .exit)) (now (cycle .exit)) r ⌝ }
 {
     match read_list(s, at, lead) {
-        Letters::No(p) => Lists::No(p),
-        Letters::Got { next, count, large } => {
+        Letters::FaultAt(p) => Lists::FaultAt(p),
+        Letters::Found { next, count, large } => {
             let p = match_word(s, next, b" (");
             if p != next + 2 {
-                return Lists::No(p);
+                return Lists::FaultAt(p);
             }
             match read_some(s, p, cycle) {
-                Letters::No(q) => Lists::No(q),
-                Letters::Got {
+                Letters::FaultAt(q) => Lists::FaultAt(q),
+                Letters::Found {
                     next: end,
                     count: all,
                     large: wide,
                 } => {
                     if byte(s, end) != 41 {
-                        return Lists::No(end);
+                        return Lists::FaultAt(end);
                     }
                     if end + 1 != s.len() {
-                        return Lists::No(end + 1);
+                        return Lists::FaultAt(end + 1);
                     }
-                    Lists::Got {
+                    Lists::Found {
                         lead: count,
                         cycle: all,
                         large: either(large, wide),
@@ -214,9 +214,9 @@ fn read_lists(s: &[u8], lead: &mut [Letter], cycle: &mut [Letter]) -> Lists
         return read_lasso(s, q, lead, cycle);
     }
     if p < q {
-        return Lists::No(q);
+        return Lists::FaultAt(q);
     }
-    Lists::No(p)
+    Lists::FaultAt(p)
 }
 
 pub enum TraceLine {
@@ -234,8 +234,8 @@ pub fn read_trace(line: &[u8], lead: &mut [Letter], cycle: &mut [Letter]) -> Tra
     let mut none = [0u32; 1];
     let mut nil = [0u32; 1];
     match read_lists(line, &mut none, &mut nil) {
-        Lists::No(p) => TraceLine::Refused(Refusal(18)),
-        Lists::Got {
+        Lists::FaultAt(p) => TraceLine::Refused(Refusal(18)),
+        Lists::Found {
             lead: a,
             cycle: b,
             large,

@@ -31,7 +31,7 @@ fn stop(s: State) -> State
 }
 
 // A read failed. One that was interrupted is tried again; any other is told and stops the run, so that half a line is never taken for one.
-fn unread(s: State) -> State
+fn stop_unless_interrupted(s: State) -> State
     ensures { λ r. ⌜ (r ≡ idle s) ⊎ (r ≡ stopped s) ⌝ }
 {
     if os::errno() == libc::EINTR {
@@ -44,7 +44,7 @@ fn unread(s: State) -> State
 }
 
 // One block: it is read, taken, and what it prints is written. A run of more lines than can be counted stops too.
-fn turn(line: &mut [u8], psl: &mut [u16], ltl: &mut [u16], out: &mut [u8], s: State) -> State
+fn take_turn(line: &mut [u8], psl: &mut [u16], ltl: &mut [u16], out: &mut [u8], s: State) -> State
     requires { ⌜ Within s (now line) (now psl) (now ltl) (now out) × (s .more ≡ true) ⌝ }
     ensures { λ r. ⌜ Turned (now (line .entry)) (now (psl .entry)) (now (ltl .entry)) s r (now (line .exit)) (now (psl .exit)) (now (ltl .exit)) (now (out .exit)) ⌝ }
 {
@@ -55,7 +55,7 @@ fn turn(line: &mut [u8], psl: &mut [u16], ltl: &mut [u16], out: &mut [u8], s: St
     let mut block = [0u8; BLOCK];
     let got = libc::read(STDIN_FILENO, &mut block);
     if got < 0 {
-        return unread(s);
+        return stop_unless_interrupted(s);
     }
     let n = io::count(got, &block);
     let r = advance(&block[..n], line, psl, ltl, out, s);
@@ -68,7 +68,7 @@ fn turn(line: &mut [u8], psl: &mut [u16], ltl: &mut [u16], out: &mut [u8], s: St
 }
 
 // Standard input to its end, or to a refused first line.
-pub fn whole() {
+pub fn take_turns() {
     let mut line = [0u8; LINE_ROOM];
     let mut psl = [0u16; 3072];
     let mut ltl = [0u16; 12288];
@@ -84,7 +84,7 @@ pub fn whole() {
     };
     let mut turns = u64::MAX;
     while turns > 0 {
-        s = turn(&mut line, &mut psl, &mut ltl, &mut out, s);
+        s = take_turn(&mut line, &mut psl, &mut ltl, &mut out, s);
         turns = if s.more { turns - 1 } else { 0 };
     }
 }

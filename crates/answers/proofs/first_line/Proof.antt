@@ -5,7 +5,7 @@ use Prim.Native.Nat.{_*_}
 use lib.ListN.{take}
 use lib.Seq.{length-take-le}
 use Rattle.formula_lines.specs.FormulaAnswer.{FormulaAnswer}
-use Rattle.formula_lines.specs.declared.Line.{Line}
+use Rattle.formula_lines.specs.declared.FormulaLine.{FormulaLine}
 use Rattle.translate.specs.Answer.{Delivers}
 use Rattle.translate.specs.declared.Translation.{Translation}
 use Rattle.answers.proofs.AnswerLaw.{first-refused, first-few, first-translated, first-tables}
@@ -24,17 +24,17 @@ enum-known-nodes c = search needs
 
 mul-end : tie.Need-mul-end
 mul-end c = let E = c .before in let F = E .before .before .before .before in let st = F .before .before .before .before .before in
-    let a = subst (λ (x : Line). FormulaAnswer (st .args .line .now) (st .args .psl .now) x (F .read-formula .last .1 .0)) (E .nodes .given .1) (F .read-formula .ensures) in
+    let a = subst (λ (x : FormulaLine). FormulaAnswer (st .args .line .now) (st .args .psl .now) x (F .read-formula .last .1 .0)) (E .nodes .given .1) (F .read-formula .ensures) in
     omega (arith, first-few (st .args .line .now) (st .args .psl .now) (F .read-formula .last .1 .0) (st .pre .0) (E .nodes .given .0 .0) a .0)
 
 slice-reshare-prefix-translate : tie.Need-slice-reshare-prefix-translate
 slice-reshare-prefix-translate c = let E = c .before in let F = E .before .before .before .before in let st = F .before .before .before .before .before in
-    let a = subst (λ (x : Line). FormulaAnswer (st .args .line .now) (st .args .psl .now) x (F .read-formula .last .1 .0)) (E .nodes .given .1) (F .read-formula .ensures) in
+    let a = subst (λ (x : FormulaLine). FormulaAnswer (st .args .line .now) (st .args .psl .now) x (F .read-formula .last .1 .0)) (E .nodes .given .1) (F .read-formula .ensures) in
     first-few (st .args .line .now) (st .args .psl .now) (F .read-formula .last .1 .0) (st .pre .0) (E .nodes .given .0 .0) a .1
 
 slice-aggregate-translate : tie.Need-slice-aggregate-translate
 slice-aggregate-translate c = let E = c .before .before in let F = E .before .before .before .before in let st = F .before .before .before .before .before in
-    let a = subst (λ (x : Line). FormulaAnswer (st .args .line .now) (st .args .psl .now) x (F .read-formula .last .1 .0)) (E .nodes .given .1) (F .read-formula .ensures) in
+    let a = subst (λ (x : FormulaLine). FormulaAnswer (st .args .line .now) (st .args .psl .now) x (F .read-formula .last .1 .0)) (E .nodes .given .1) (F .read-formula .ensures) in
     sym (length-take-le _ _ (first-few (st .args .line .now) (st .args .psl .now) (F .read-formula .last .1 .0) (st .pre .0) (E .nodes .given .0 .0) a .1))
 
 translate-requires : tie.Need-translate-requires
@@ -51,7 +51,7 @@ same-length c = search needs
 
 returns : tie.Need-returns
 returns c = let E = c .before in let F = E .before .before .before .before in let st = F .before .before .before .before .before in
-    let a = subst (λ (x : Line). FormulaAnswer (st .args .line .now) (st .args .psl .now) x (F .read-formula .last .1 .0)) (E .x .given .1) (F .read-formula .ensures) in
+    let a = subst (λ (x : FormulaLine). FormulaAnswer (st .args .line .now) (st .args .psl .now) x (F .read-formula .last .1 .0)) (E .x .given .1) (F .read-formula .ensures) in
     first-refused (st .args .line .now) (st .args .psl .now) (F .read-formula .last .1 .0) (st .pre .0) a
 
 same-length-2 : tie.Need-same-length-2
@@ -62,7 +62,7 @@ same-length-3 c = search needs
 
 returns-2 : tie.Need-returns-2
 returns-2 c = let X = c .before in let D = X .before .before .before .before in let E = D .before .before .before .before in let F = E .before .before .before .before in let st = F .before .before .before .before .before in
-    let a = subst (λ (x : Line). FormulaAnswer (st .args .line .now) (st .args .psl .now) x (F .read-formula .last .1 .0)) (E .nodes .given .1) (F .read-formula .ensures) in
+    let a = subst (λ (x : FormulaLine). FormulaAnswer (st .args .line .now) (st .args .psl .now) x (F .read-formula .last .1 .0)) (E .nodes .given .1) (F .read-formula .ensures) in
     let d = subst (λ (y : Translation). Delivers (take (3 * E .nodes .given .0 .0) (F .read-formula .last .1 .0)) (st .args .ltl .now) y (D .translate .last .1 .0)) (X .x2 .given .1) (D .translate .ensures) in
     absurd (first-translated (st .args .line .now) (st .args .psl .now) (F .read-formula .last .1 .0) (st .pre .0) (E .nodes .given .0 .0) a (st .pre .1) d)
 
@@ -74,7 +74,7 @@ same-length-5 c = search needs
 
 returns-3 : tie.Need-returns-3
 returns-3 c = let X = c .before in let D = X .before .before .before .before in let E = D .before .before .before .before in let F = E .before .before .before .before in let st = F .before .before .before .before .before in
-    let a = subst (λ (x : Line). FormulaAnswer (st .args .line .now) (st .args .psl .now) x (F .read-formula .last .1 .0)) (E .nodes .given .1) (F .read-formula .ensures) in
+    let a = subst (λ (x : FormulaLine). FormulaAnswer (st .args .line .now) (st .args .psl .now) x (F .read-formula .last .1 .0)) (E .nodes .given .1) (F .read-formula .ensures) in
     let d = subst (λ (y : Translation). Delivers (take (3 * E .nodes .given .0 .0) (F .read-formula .last .1 .0)) (st .args .ltl .now) y (D .translate .last .1 .0)) (X .size .given .1) (D .translate .ensures) in
     first-tables (st .args .line .now) (st .args .psl .now) (F .read-formula .last .1 .0) (st .pre .0) (E .nodes .given .0 .0) a d
 

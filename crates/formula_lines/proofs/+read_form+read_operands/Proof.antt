@@ -5,7 +5,7 @@ use mathlib.Core.Path.{_≡_, sym, ap, subst, _∙_}
 use Prim.Native.Nat.{_*_, _-_, _+_}
 use lib.ListN.{length}
 use mathlib.Core.List.{[], _∷_}
-use Rattle.formula_lines.specs.declared.Shape.{Shape}
+use Rattle.formula_lines.specs.declared.Arity.{Arity}
 use Rattle.text.specs.Inner.Places.{Stands}
 use Rattle.formula_lines.specs.Inner.Form.{Form, Sorted, kinds, arity, leftSort, rightSort}
 use Rattle.formula_lines.specs.Inner.Reader.{KeywordRead, FormRead, FormStands, OperandsRead}
@@ -22,11 +22,11 @@ use Rattle.formula_lines.proofs.read_operands.Reads as read-operands
 use Rattle.formula_lines.proofs.read_operands.Kinds as read-operands-kinds
 use Rattle.formula_lines.proofs.+read_form+read_operands.Lts-read_operands as read-operands-lts
 use Rattle.text.proofs.scan.either.Reads as either-reads
-use Rattle.formula_lines.proofs.keyword.Reads as keyword-reads
+use Rattle.formula_lines.proofs.read_keyword.Reads as read-keyword-reads
 use Rattle.formula_lines.proofs.put_node.Reads as put-node-reads
 use Rattle.formula_lines.proofs.read_signal.Reads as read-signal-reads
 use Rattle.formula_lines.proofs.read_true.Reads as read-true-reads
-use Rattle.formula_lines.proofs.takes.Reads as takes-reads
+use Rattle.formula_lines.proofs.arity_of.Reads as arity-of-reads
 use Rattle.text.proofs.scan.byte.Reads as byte-reads
 use Rattle.formula_lines.proofs.+read_form+read_operands.{statement}
 use Rattle.formula_lines.proofs.+read_form+read_operands.Tie.{close}
@@ -53,9 +53,9 @@ module _ (t : ℕ) where
   -- ── read_form ──
 
   abbrev read-form-claims : read-form-lts.Claims
-  read-form-claims = (byte-reads.Asked, byte-reads.Learnt, read-true-reads.Asked, read-true-reads.Learnt, keyword-reads.Asked, keyword-reads.Learnt, read-operands-below t, read-operands.Post, put-node-reads.Asked, put-node-reads.Learnt)
+  read-form-claims = (byte-reads.Asked, byte-reads.Learnt, read-true-reads.Asked, read-true-reads.Learnt, read-keyword-reads.Asked, read-keyword-reads.Learnt, read-operands-below t, read-operands.Post, put-node-reads.Asked, put-node-reads.Learnt)
 
-  -- The bracket has been read; and then the word.
+  -- The bracket has been read; and then the keyword.
   opened : (c : read-form-lts.Else1 read-form-claims (read-form-at t) read-form.Post) → Open (c .before .before .before .before .args .s .now) (c .before .before .before .before .args .at)
   opened c =
       let test = c .before .byte .ensures in
@@ -65,7 +65,7 @@ module _ (t : ℕ) where
       → Entered (c .before .before .before .before .before .before .before .args .s .now) (c .before .before .before .before .before .before .before .args .at) (c .before .before .before .before .before .before .before .args .sort) (c .kind .given .0 .0) (c .kind .given .0 .1 .0)
   entered c =
       let x = c .before .before .before .before .before .before .before .args in
-      let (m, a) = subst (KeywordRead (kinds (x .sort)) (x .s .now) (x .at + 1)) (c .kind .given .1) (c .before .before .keyword .ensures) in
+      let (m, a) = subst (KeywordRead (kinds (x .sort)) (x .s .now) (x .at + 1)) (c .kind .given .1) (c .before .before .read-keyword .ensures) in
       record { opened = opened (c .before .before .before); member = m; named = a }
 
   read-form-byte-requires : read-form-lts.Need-byte-requires read-form-claims (read-form-at t) read-form.Post
@@ -86,11 +86,11 @@ module _ (t : ℕ) where
       let at-read-true = c .before .before in
       at-read-true .read-true .ensures
 
-  read-form-add-keyword : read-form-lts.Need-add-keyword read-form-claims (read-form-at t) read-form.Post
-  read-form-add-keyword c = omega (arith, opened c .within)
+  read-form-add-read-keyword : read-form-lts.Need-add-read-keyword read-form-claims (read-form-at t) read-form.Post
+  read-form-add-read-keyword c = omega (arith, opened c .within)
 
-  read-form-keyword-requires : read-form-lts.Need-keyword-requires read-form-claims (read-form-at t) read-form.Post
-  read-form-keyword-requires c κs = opened c .within
+  read-form-read-keyword-requires : read-form-lts.Need-read-keyword-requires read-form-claims (read-form-at t) read-form.Post
+  read-form-read-keyword-requires c κs = opened c .within
 
   read-form-enum-known-p : read-form-lts.Need-enum-known-p read-form-claims (read-form-at t) read-form.Post
   read-form-enum-known-p c = search needs
@@ -174,10 +174,10 @@ module _ (t : ℕ) where
       let start = c .before .before .before .before .before .before .before .before in
       let at-if1 = c .before .before .before .before in
       let at-p = c .before in
-      let at-keyword = c .before .before .before in
+      let at-read-keyword = c .before .before .before in
       let x = start .args in
       let s = x .s .now in
-      no-word (x .sort) (opened at-if1) (subst (KeywordRead (kinds (x .sort)) s (x .at + 1)) (at-p .p .given .1) (at-keyword .keyword .ensures))
+      no-word (x .sort) (opened at-if1) (subst (KeywordRead (kinds (x .sort)) s (x .at + 1)) (at-p .p .given .1) (at-read-keyword .read-keyword .ensures))
 
   read-form-same-length-3 : read-form-lts.Need-same-length-3 read-form-claims (read-form-at t) read-form.Post
   read-form-same-length-3 c = search needs
@@ -214,7 +214,7 @@ module _ (t : ℕ) where
   -- ── read_operands ──
 
   abbrev read-operands-claims : read-operands-lts.Claims
-  read-operands-claims = (takes-reads.Asked, takes-reads.Learnt, read-signal-reads.Asked, read-signal-reads.Learnt, read-form-below t, read-form.Post, byte-reads.Asked, byte-reads.Learnt, either-reads.Asked, either-reads.Learnt)
+  read-operands-claims = (arity-of-reads.Asked, arity-of-reads.Learnt, read-signal-reads.Asked, read-signal-reads.Learnt, read-form-below t, read-form.Post, byte-reads.Asked, byte-reads.Learnt, either-reads.Asked, either-reads.Learnt)
 
   -- The first operand has been read; and then the space.
   first-read : (c : read-operands-lts.After-read-form read-operands-claims (read-operands-at t) read-operands.Post)
@@ -222,8 +222,8 @@ module _ (t : ℕ) where
       (c .read-form .last .1 .1 .1 .0) (c .read-form .result)
   first-read c =
       let x = c .before .before .before .before .before .before .args in
-      subst (λ (y : Shape). FormRead (y .1) (x .s .now) (x .at) (x .n) (x .out .now) (c .read-form .last .1 .1 .1 .0) (c .read-form .result))
-      (c .before .before .before .takes .ensures) (c .read-form .ensures)
+      subst (λ (y : Arity). FormRead (y .1) (x .s .now) (x .at) (x .n) (x .out .now) (c .read-form .last .1 .1 .1 .0) (c .read-form .result))
+      (c .before .before .before .arity-of .ensures) (c .read-form .ensures)
 
   first : (c : read-operands-lts.After-next read-operands-claims (read-operands-at t) read-operands.Post)
       → (f : Form) × Sorted (leftSort (c .before .before .before .before .before .before .before .before .before .before .args .kind)) f × FormStands f (c .before .before .before .before .before .before .before .before .before .before .args .s .now) (c .before .before .before .before .before .before .before .before .before .before .args .at) (c .before .before .before .before .before .before .before .before .before .before .args .n)
@@ -232,8 +232,8 @@ module _ (t : ℕ) where
       let x = c .before .before .before .before .before .before .before .before .before .before .args in
       subst (FormRead (leftSort (x .kind)) (x .s .now) (x .at) (x .n) (x .out .now) (c .before .before .before .before .read-form .last .1 .1 .1 .0)) (c .next .given .1) (first-read (c .before .before .before .before))
 
-  forms : (c : read-operands-lts.After-takes read-operands-claims (read-operands-at t) read-operands.Post) → c .takes .result .0 ≡ arity (c .before .before .before .args .kind)
-  forms c = ap (λ (y : Shape). y .0) (c .takes .ensures)
+  forms : (c : read-operands-lts.After-arity-of read-operands-claims (read-operands-at t) read-operands.Post) → c .arity-of .result .0 ≡ arity (c .before .before .before .args .kind)
+  forms c = ap (λ (y : Arity). y .0) (c .arity-of .ensures)
 
   two-forms : (c : read-operands-lts.Else2 read-operands-claims (read-operands-at t) read-operands.Post) → arity (c .before .before .before .before .before .before .before .before .before .before .before .before .args .kind) ≡ 2
   two-forms c =
@@ -251,12 +251,12 @@ module _ (t : ℕ) where
       (c .before .before .before .before .before .before .before .before .before .before .read-form .last .1 .1 .1 .0) (c .read-form2 .last .1 .1 .1 .0) (c .read-form2 .result)
   second-read c =
       let g = c .before .before .before .before .before .before .next .given .0 in
-      subst (λ (y : Shape). FormRead (y .2) (c .before .before .before .before .before .before .before .before .before .before .before .before .before .before .before .before .args .s .now) (g .0 + 1) (g .1 .0) (c .before .before .before .before .before .before .before .before .before .before .read-form .last .1 .1 .1 .0)
+      subst (λ (y : Arity). FormRead (y .2) (c .before .before .before .before .before .before .before .before .before .before .before .before .before .before .before .before .args .s .now) (g .0 + 1) (g .1 .0) (c .before .before .before .before .before .before .before .before .before .before .read-form .last .1 .1 .1 .0)
       (c .read-form2 .last .1 .1 .1 .0) (c .read-form2 .result))
-      (c .before .before .before .before .before .before .before .before .before .before .before .before .before .takes .ensures) (c .read-form2 .ensures)
+      (c .before .before .before .before .before .before .before .before .before .before .before .before .before .arity-of .ensures) (c .read-form2 .ensures)
 
-  read-operands-takes-requires : read-operands-lts.Need-takes-requires read-operands-claims (read-operands-at t) read-operands.Post
-  read-operands-takes-requires c κs = search needs
+  read-operands-arity-of-requires : read-operands-lts.Need-arity-of-requires read-operands-claims (read-operands-at t) read-operands.Post
+  read-operands-arity-of-requires c κs = search needs
 
   read-operands-read-signal-requires : read-operands-lts.Need-read-signal-requires read-operands-claims (read-operands-at t) read-operands.Post
   read-operands-read-signal-requires c κs =
@@ -266,11 +266,11 @@ module _ (t : ℕ) where
   read-operands-returns : read-operands-lts.Need-returns read-operands-claims (read-operands-at t) read-operands.Post
   read-operands-returns c =
       let start = c .before .before .before .before .before in
-      let at-takes = c .before .before in
+      let at-arity-of = c .before .before in
       let at-if1 = c .before in
       let x = start .args in
       let s = x .s .now in
-      let k = kind-fact (start .pre .1 .1 .0) (x .kind) (start .pre .1 .1 .1) .var (sym (forms at-takes) ∙ at-if1 .if1 .taken) .0 in
+      let k = kind-fact (start .pre .1 .1 .0) (x .kind) (start .pre .1 .1 .1) .var (sym (forms at-arity-of) ∙ at-if1 .if1 .taken) .0 in
       subst (λ (j : ℕ). OperandsRead j s (x .at) (x .n) (x .out .now) (x .out .now) (c .read-signal .result)) (sym k) (c .read-signal .ensures (x .out .now))
 
   read-operands-read-form-requires : read-operands-lts.Need-read-form-requires read-operands-claims (read-operands-at t) read-operands.Post
@@ -304,9 +304,9 @@ module _ (t : ℕ) where
   read-operands-returns-2 c =
       let at-next = c .before .before in
       let start = c .before .before .before .before .before .before .before .before .before .before .before .before in
-      let at-takes = c .before .before .before .before .before .before .before .before .before in
+      let at-arity-of = c .before .before .before .before .before .before .before .before .before in
       let (f, sf, a) = first at-next in
-      one-stands (start .args .kind) sf a (sym (forms at-takes) ∙ c .if2 .taken)
+      one-stands (start .args .kind) sf a (sym (forms at-arity-of) ∙ c .if2 .taken)
 
   read-operands-byte-requires : read-operands-lts.Need-byte-requires read-operands-claims (read-operands-at t) read-operands.Post
   read-operands-byte-requires c κs = search needs
@@ -381,12 +381,12 @@ module _ (t : ℕ) where
   read-operands-returns-4 c =
       let start = c .before .before .before .before .before .before .before .before .before .before .before in
       let at-if1 = c .before .before .before .before .before .before .before in
-      let at-takes = c .before .before .before .before .before .before .before .before in
+      let at-arity-of = c .before .before .before .before .before .before .before .before in
       let at-read-form = c .before .before .before .before .before in
       let at-p = c .before in
       let x = start .args in
       let s = x .s .now in
-      first-no (x .kind) (start .pre .1 .1) (λ e. at-if1 .if1 .left (forms at-takes ∙ e))
+      first-no (x .kind) (start .pre .1 .1) (λ e. at-if1 .if1 .left (forms at-arity-of ∙ e))
       (subst (FormRead (leftSort (x .kind)) s (x .at) (x .n) (x .out .now) (at-read-form .read-form .last .1 .1 .1 .0)) (at-p .p .given .1) (first-read at-read-form))
 
   read-operands-same-length-4 : read-operands-lts.Need-same-length-4 read-operands-claims (read-operands-at t) read-operands.Post
@@ -436,8 +436,8 @@ pub +read-form+read-operands-spec : {M : Type 1} → statement M
     (read-form-read-true-requires t)
     (read-form-same-length t)
     (read-form-returns t)
-    (read-form-add-keyword t)
-    (read-form-keyword-requires t)
+    (read-form-add-read-keyword t)
+    (read-form-read-keyword-requires t)
     (read-form-enum-known-p t)
     (read-form-enum-known-kind t)
     (read-form-read-operands-requires t)
@@ -456,7 +456,7 @@ pub +read-form+read-operands-spec : {M : Type 1} → statement M
     (read-form-returns-5 t))
     (λ t.
     read-operands-lts.spec (read-operands-claims t) (read-operands-at t) read-operands.Post
-    (read-operands-takes-requires t)
+    (read-operands-arity-of-requires t)
     (read-operands-read-signal-requires t)
     (read-operands-returns t)
     (read-operands-read-form-requires t)

@@ -1,4 +1,4 @@
--- Forms of either sort as the reader meets them: `true`, `(var K)`, or the word of a kind with one or two operands.
+-- Forms of either sort as the reader meets them: `true`, `(var K)`, or the keyword of a kind with one or two operands.
 use mathlib.Core.Path.{_≡_}
 use mathlib.Core.Bool.{Bool, false, _||_}
 use mathlib.Core.List.{List, [], _∷_, _++_}
@@ -7,7 +7,7 @@ use lib.ListN.{getD}
 use lib.Dec.{T, leb}
 use Rattle.logic.specs.Letter.{signals}
 use Rattle.table.specs.Node.{Node, node, _▸_, last}
-use Rattle.formula_lines.specs.declared.Shape.{Shape}
+use Rattle.formula_lines.specs.declared.Arity.{Arity}
 use Rattle.text.specs.Text.{text}
 use Rattle.text.specs.Inner.Words.{elem}
 use Rattle.text.specs.Spelling.{digits}
@@ -20,9 +20,9 @@ pub data Form : Type 0 where
 
 -- ── Kinds ──
 
--- The word of each kind from 0 on, with the space after it.
-unfoldable pub word : ℕ → List ℕ
-word k =
+-- The keyword of each kind from 0 on, with the space after it.
+unfoldable pub keyword : ℕ → List ℕ
+keyword k =
     getD (
     []
     ∷ text "var "
@@ -39,26 +39,26 @@ word k =
     ) k []
 
 -- How many forms each kind takes, and the sorts of the left and of the right one, 0 for a Boolean and 1 for a formula.
-abbrev pub takes : ℕ → ℕ → ℕ → Shape
-takes a l r = record { 0 = a; 1 = l; 2 = r }
+abbrev pub arityIs : ℕ → ℕ → ℕ → Arity
+arityIs a l r = record { 0 = a; 1 = l; 2 = r }
 
-abbrev pub shapes : List Shape
-shapes =
-    takes 0 0 0
-    ∷ takes 0 0 0
-    ∷ takes 1 0 0
-    ∷ takes 2 0 0
-    ∷ takes 1 0 0
-    ∷ takes 1 0 0
-    ∷ takes 1 1 0
-    ∷ takes 2 1 1
-    ∷ takes 1 1 0
-    ∷ takes 2 1 1
-    ∷ takes 2 1 0
+abbrev pub arities : List Arity
+arities =
+    arityIs 0 0 0
+    ∷ arityIs 0 0 0
+    ∷ arityIs 1 0 0
+    ∷ arityIs 2 0 0
+    ∷ arityIs 1 0 0
+    ∷ arityIs 1 0 0
+    ∷ arityIs 1 1 0
+    ∷ arityIs 2 1 1
+    ∷ arityIs 1 1 0
+    ∷ arityIs 2 1 1
+    ∷ arityIs 2 1 0
     ∷ []
 
-unfoldable pub shape : ℕ → Shape
-shape k = getD shapes k (takes 0 0 0)
+unfoldable pub shape : ℕ → Arity
+shape k = getD arities k (arityIs 0 0 0)
 
 abbrev pub arity : ℕ → ℕ
 arity k = shape k .0
@@ -92,11 +92,11 @@ OfKind k (two j f g) = (k ≡ j) × (arity k ≡ 2) × Sorted (leftSort k) f × 
 
 unfoldable pub bytes : Form → List ℕ
 bytes truth = text "true"
-bytes (signal n) = text "(" ++ (word 1 ++ (digits n ++ text ")"))
-bytes (one k f) = text "(" ++ (word k ++ (bytes f ++ text ")"))
-bytes (two k f g) = text "(" ++ (word k ++ (bytes f ++ (text " " ++ (bytes g ++ text ")"))))
+bytes (signal n) = text "(" ++ (keyword 1 ++ (digits n ++ text ")"))
+bytes (one k f) = text "(" ++ (keyword k ++ (bytes f ++ text ")"))
+bytes (two k f g) = text "(" ++ (keyword k ++ (bytes f ++ (text " " ++ (bytes g ++ text ")"))))
 
--- What stands between the word and the closing bracket.
+-- What stands between the keyword and the closing bracket.
 abbrev pub inner : Form → List ℕ
 inner truth = []
 inner (signal n) = digits n

@@ -15,10 +15,10 @@ use Rattle.formula_lines.specs.Closing.{table}
 use Rattle.formula_lines.specs.FormulaAnswer.{largeSignal}
 use Rattle.text.specs.Inner.Places.{Language, Begins, Stands, Halts, Stops, StopsLine}
 use Rattle.text.specs.Inner.Number.{NoDigit}
-use Rattle.formula_lines.specs.Inner.Form.{Form, truth, signal, one, two, word, kinds, Sorted, OfKind, bytes, inner, closed, wide}
+use Rattle.formula_lines.specs.Inner.Form.{Form, truth, signal, one, two, keyword, kinds, Sorted, OfKind, bytes, inner, closed, wide}
 use Rattle.text.specs.Inner.Words.{elem}
-use Rattle.formula_lines.specs.declared.Word.{Word}
-use Rattle.formula_lines.specs.declared.Word.the-variants as Word
+use Rattle.formula_lines.specs.declared.Keyword.{Keyword}
+use Rattle.formula_lines.specs.declared.Keyword.the-variants as Keyword
 use Rattle.formula_lines.specs.declared.Read.{Read}
 use Rattle.formula_lines.specs.declared.Read.the-variants as Read
 use Rattle.formula_lines.specs.declared.Operands.{Operands}
@@ -26,19 +26,19 @@ use Rattle.formula_lines.specs.declared.Operands.the-variants as Operand
 
 -- ── Words ──
 
-abbrev pub WordOf : List ℕ → Language
-WordOf ks w = (k : ℕ) × T (elem k ks) × (w ≡ word k)
+abbrev pub KeywordOf : List ℕ → Language
+KeywordOf ks w = (k : ℕ) × T (elem k ks) × (w ≡ keyword k)
 
 -- At the first place none need have begun.
-abbrev pub KeywordRead : List ℕ → List ℕ → ℕ → Word → Type 0
-KeywordRead ks s at (Word.Found kind next) = T (elem kind ks) × Stands (word kind) s at next
-KeywordRead ks s at (Word.No p) = Halts (λ w. (w ≡ []) ⊎ WordOf ks w) (Begins (WordOf ks)) s at p
+abbrev pub KeywordRead : List ℕ → List ℕ → ℕ → Keyword → Type 0
+KeywordRead ks s at (Keyword.Found kind next) = T (elem kind ks) × Stands (keyword kind) s at next
+KeywordRead ks s at (Keyword.FaultAt p) = Halts (λ w. (w ≡ []) ⊎ KeywordOf ks w) (Begins (KeywordOf ks)) s at p
 
 -- ── Forms ──
 
 -- A kind that stands in brackets.
-abbrev pub Known : ℕ → Type 0
-Known k = (so : ℕ) × T (elem k (kinds so))
+abbrev pub InBrackets : ℕ → Type 0
+InBrackets k = (so : ℕ) × T (elem k (kinds so))
 
 abbrev pub FormOf : ℕ → Language
 FormOf so w = (f : Form) × Sorted so f × (w ≡ bytes f)
@@ -63,8 +63,8 @@ pub record FormStands (f : Form) (s : List ℕ) (at n next nodes : ℕ) (large :
   pub written : large ≡ false → (l₀ : List ℕ) (ns : List Node) → length ns ≡ n → l ≡ filled l₀ ns → l′ ≡ filled l₀ (closed f ns)
 
 abbrev pub FormRead : ℕ → List ℕ → ℕ → ℕ → List ℕ → List ℕ → Read → Type 0
-FormRead so s at n l l′ (Read.Got next nodes large) = (f : Form) × Sorted so f × FormStands f s at n next nodes large l l′
-FormRead so s at n l l′ (Read.No p) = Stops (FormOf so) s at p
+FormRead so s at n l l′ (Read.Found next nodes large) = (f : Form) × Sorted so f × FormStands f s at n next nodes large l l′
+FormRead so s at n l l′ (Read.FaultAt p) = Stops (FormOf so) s at p
 
 -- A number's end is told by what follows it.
 abbrev pub Ended : Form → List ℕ → Type 0
@@ -86,14 +86,14 @@ pub record OperandsStand (f : Form) (s : List ℕ) (at n next nodes kind left ri
       → sets l′ (3 * nodes) (kind ∷ left ∷ right ∷ []) ≡ filled l₀ (closed f ns)
 
 abbrev pub OperandsRead : ℕ → List ℕ → ℕ → ℕ → List ℕ → List ℕ → Operands → Type 0
-OperandsRead kind s at n l l′ (Operands.Got next nodes left right large) =
+OperandsRead kind s at n l l′ (Operands.Found next nodes left right large) =
     (f : Form) × OfKind kind f × OperandsStand f s at n next nodes kind left right large l l′
-OperandsRead kind s at n l l′ (Operands.No p) = Stops (OperandsOf kind) s at p
+OperandsRead kind s at n l l′ (Operands.FaultAt p) = Stops (OperandsOf kind) s at p
 
 -- ── A whole line ──
 
-abbrev pub FormulaLine : Language
-FormulaLine w = (f : Formula) × (w ≡ formulaLine f)
+abbrev pub SpellsFormula : Language
+SpellsFormula w = (f : Formula) × (w ≡ formulaLine f)
 
 pub record WholeStands (f : Formula) (s : List ℕ) (nodes : ℕ) (large : Bool) (l l′ : List ℕ) : Type 0 where
   pub is : s ≡ formulaLine f
@@ -103,5 +103,5 @@ pub record WholeStands (f : Formula) (s : List ℕ) (nodes : ℕ) (large : Bool)
   pub written : large ≡ false → l′ ≡ filled l (table f)
 
 abbrev pub WholeRead : List ℕ → List ℕ → List ℕ → Read → Type 0
-WholeRead s l l′ (Read.Got next nodes large) = (f : Formula) × WholeStands f s nodes large l l′
-WholeRead s l l′ (Read.No p) = StopsLine FormulaLine s 0 p
+WholeRead s l l′ (Read.Found next nodes large) = (f : Formula) × WholeStands f s nodes large l l′
+WholeRead s l l′ (Read.FaultAt p) = StopsLine SpellsFormula s 0 p

@@ -11,7 +11,7 @@ abbrev pub byteAt : List ℕ → ℕ → ℕ
 byteAt s i = getD s i 256
 
 -- A place in a line that is not too long, with no more nodes or letters than bytes before it.
-pub record Fits (s : List ℕ) (at n : ℕ) : Type 0 where
+pub record CursorIn (s : List ℕ) (at n : ℕ) : Type 0 where
   pub few : n ≤ at
   pub within : at ≤ length s
   pub short : length s ≤ mostBytes

@@ -8,7 +8,7 @@ use Rattle.text.specs.Spelling.{digits}
 use Rattle.text.specs.Inner.Places.{Stands, Halts, Stops}
 use Rattle.text.specs.Inner.Number.{NoDigit, Numeral, Numbered}
 use Rattle.text.specs.declared.scan.Number.{Number}
-use Rattle.text.specs.declared.scan.Number.the-variants.{Small, Large, No}
+use Rattle.text.specs.declared.scan.Number.the-variants.{Small, Large, FaultAt}
 
 -- A digit, or 10 where there is none.
 pub record DigitRead (s : List ℕ) (at r : ℕ) : Type 0 where
@@ -29,7 +29,7 @@ pub record NumberStands (n : ℕ) (s : List ℕ) (at next : ℕ) : Type 0 where
 abbrev pub NumberRead : List ℕ → ℕ → ℕ → Number → Type 0
 NumberRead s at limit (Small v next) = (v ≤ limit) × NumberStands v s at next
 NumberRead s at limit (Large next) = (n : ℕ) × (limit < n) × NumberStands n s at next
-NumberRead s at limit (No p) = Halts Numeral Numbered s at p
+NumberRead s at limit (FaultAt p) = Halts Numeral Numbered s at p
 
 -- A word stands whole, or up to r.
 pub record WordRead (w s : List ℕ) (at r : ℕ) : Type 0 where

@@ -29,8 +29,8 @@ pub record LetterStands (x : ℕ) (s : List ℕ) (at n next count : ℕ) (large 
   pub written : large ≡ false → l′ ≡ set l n x
 
 abbrev pub LetterRead : List ℕ → ℕ → ℕ → List ℕ → List ℕ → Letters → Type 0
-LetterRead s at n l l′ (Letters.Got next count large) = (x : ℕ) × LetterStands x s at n next count large l l′
-LetterRead s at n l l′ (Letters.No p) = Halts Numeral Numbered s at p
+LetterRead s at n l l′ (Letters.Found next count large) = (x : ℕ) × LetterStands x s at n next count large l l′
+LetterRead s at n l l′ (Letters.FaultAt p) = Halts Numeral Numbered s at p
 
 -- ── Lists of letters ──
 
@@ -61,8 +61,8 @@ pub record LettersStand (w xs s : List ℕ) (at n next count : ℕ) (large : Boo
   pub written : large ≡ false → l′ ≡ sets l n xs
 
 abbrev pub LettersRead : (List ℕ → List ℕ) → (List ℕ → Type 0) → List ℕ → ℕ → ℕ → List ℕ → List ℕ → Letters → Type 0
-LettersRead F P s at n l l′ (Letters.Got next count large) = (xs : List ℕ) × P xs × LettersStand (F xs) xs s at n next count large l l′
-LettersRead F P s at n l l′ (Letters.No p) = Stops (Spelled F P) s at p
+LettersRead F P s at n l l′ (Letters.Found next count large) = (xs : List ℕ) × P xs × LettersStand (F xs) xs s at n next count large l l′
+LettersRead F P s at n l l′ (Letters.FaultAt p) = Stops (Spelled F P) s at p
 
 -- ── Both lists ──
 
@@ -85,6 +85,6 @@ pub record ListsStand (lead loop : List ℕ) (a b : ℕ) (large : Bool) (l m l�
   pub written : large ≡ false → (l′ ≡ sets l 0 lead) × (m′ ≡ sets m 0 loop)
 
 abbrev pub ListsRead : (List ℕ → List ℕ → Language) → List ℕ → ℕ → List ℕ → List ℕ → List ℕ → List ℕ → Lists → Type 0
-ListsRead F s at l m l′ m′ (Lists.Got a b large) =
+ListsRead F s at l m l′ m′ (Lists.Found a b large) =
     (lead : List ℕ) × (loop : List ℕ) × F lead loop (drop at s) × ListsStand lead loop a b large l m l′ m′
-ListsRead F s at l m l′ m′ (Lists.No p) = StopsLine (λ w. (lead : List ℕ) × (loop : List ℕ) × F lead loop w) s at p
+ListsRead F s at l m l′ m′ (Lists.FaultAt p) = StopsLine (λ w. (lead : List ℕ) × (loop : List ℕ) × F lead loop w) s at p

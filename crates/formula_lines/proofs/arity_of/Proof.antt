@@ -3,13 +3,13 @@ use borrow.Author.Needs.{needs}
 use native.Mathlib.Omega.{arith}
 use mathlib.Core.Path.{refl, sym}
 use lib.ListN.{List·getD-eq-default}
-use Rattle.formula_lines.specs.Inner.Form.{takes, shapes, shape}
-use Rattle.formula_lines.proofs.takes.Statement.{statement}
-use Rattle.formula_lines.proofs.takes.Tie as tie
+use Rattle.formula_lines.specs.Inner.Form.{arityIs, arities, shape}
+use Rattle.formula_lines.proofs.arity_of.Statement.{statement}
+use Rattle.formula_lines.proofs.arity_of.Tie as tie
 
 returns : tie.Need-returns
 unfolding shape
-returns c = sym (List·getD-eq-default shapes (takes 0 0 0) {n = c .before .args .kind} (omega arith))
+returns c = sym (List·getD-eq-default arities (arityIs 0 0 0) {n = c .before .args .kind} (omega arith))
 
 mul-result : tie.Need-mul-result
 mul-result c = search needs
@@ -21,5 +21,5 @@ returns-2 : tie.Need-returns-2
 unfolding shape
 returns-2 c = refl
 
-pub takes-spec : {M : Type 1} → statement M
-takes-spec = tie.close (tie.spec returns mul-result array-copy-out-result returns-2)
+pub arity-of-spec : {M : Type 1} → statement M
+arity-of-spec = tie.close (tie.spec returns mul-result array-copy-out-result returns-2)

@@ -2,8 +2,8 @@
 use mathlib.Core.Path.{refl}
 use mathlib.Core.Logic.{inl, inr}
 use borrow.Author.Needs.{needs}
-use Rattle.turns.proofs.unread.Statement.{statement}
-use Rattle.turns.proofs.unread.Tie as tie
+use Rattle.turns.proofs.stop_unless_interrupted.Statement.{statement}
+use Rattle.turns.proofs.stop_unless_interrupted.Tie as tie
 
 errno-requires : tie.Need-errno-requires
 errno-requires c κs = search needs
@@ -23,7 +23,7 @@ stop-requires c κs = search needs
 returns-2 : tie.Need-returns-2
 returns-2 c = inr (c .stop .ensures)
 
-pub unread-spec : {M : Type 1} → statement M
-unread-spec =
+pub stop-unless-interrupted-spec : {M : Type 1} → statement M
+stop-unless-interrupted-spec =
     tie.close
     (tie.spec errno-requires returns slice-aggregate-fail fail-requires stop-requires returns-2)

@@ -8,8 +8,8 @@ use lib.ListN.{length-replicate}
 use borrow.Author.Needs.{needs}
 use Rattle.run.specs.Inner.{keptBytes, Within, no-turn}
 use Rattle.turns.proofs.TurnLaw.{Underway, underway-turn}
-use Rattle.turns.proofs.whole.Statement.{statement}
-use Rattle.turns.proofs.whole.Tie as tie
+use Rattle.turns.proofs.take_turns.Statement.{statement}
+use Rattle.turns.proofs.take_turns.Tie as tie
 
 abbrev Inv-loop : tie.InvT-loop
 Inv-loop line₀ psl₀ ltl₀ out₀ s₀ turns₀ line psl ltl out s turns = Within s line psl ltl out × (0 < turns → (s .more ≡ true) × Underway s line psl ltl)
@@ -34,24 +34,24 @@ loop-holds c = (
   λ _. (refl, ([], [], no-turn)),
 )
 
-slice-aggregate-turn : tie.Need-slice-aggregate-turn Inv-loop μ-loop
-slice-aggregate-turn c = let L = c .before .before .loop in
+slice-aggregate-take-turn : tie.Need-slice-aggregate-take-turn Inv-loop μ-loop
+slice-aggregate-take-turn c = let L = c .before .before .loop in
     sym (L .inv .0 .lineRoom)
 
-slice-aggregate-turn-2 : tie.Need-slice-aggregate-turn-2 Inv-loop μ-loop
-slice-aggregate-turn-2 c = let L = c .before .before .before .loop in
+slice-aggregate-take-turn-2 : tie.Need-slice-aggregate-take-turn-2 Inv-loop μ-loop
+slice-aggregate-take-turn-2 c = let L = c .before .before .before .loop in
     sym (L .inv .0 .pslRoom)
 
-slice-aggregate-turn-3 : tie.Need-slice-aggregate-turn-3 Inv-loop μ-loop
-slice-aggregate-turn-3 c = let L = c .before .before .before .before .loop in
+slice-aggregate-take-turn-3 : tie.Need-slice-aggregate-take-turn-3 Inv-loop μ-loop
+slice-aggregate-take-turn-3 c = let L = c .before .before .before .before .loop in
     sym (L .inv .0 .ltlRoom)
 
-slice-aggregate-turn-4 : tie.Need-slice-aggregate-turn-4 Inv-loop μ-loop
-slice-aggregate-turn-4 c = let L = c .before .before .before .before .before .loop in
+slice-aggregate-take-turn-4 : tie.Need-slice-aggregate-take-turn-4 Inv-loop μ-loop
+slice-aggregate-take-turn-4 c = let L = c .before .before .before .before .before .loop in
     sym (L .inv .0 .outRoom)
 
-turn-requires : tie.Need-turn-requires Inv-loop μ-loop
-turn-requires c κs = let L = c .before .before .before .before .before .loop in
+take-turn-requires : tie.Need-take-turn-requires Inv-loop μ-loop
+take-turn-requires c κs = let L = c .before .before .before .before .before .loop in
     (L .inv .0, L .inv .1 (c .before .before .before .before .loop-test .taken) .0)
 
 sub-turns : tie.Need-sub-turns Inv-loop μ-loop
@@ -61,7 +61,7 @@ loop-less : tie.Need-loop-less Inv-loop μ-loop
 loop-less c = search needs
 
 loop-again : tie.Need-loop-again Inv-loop μ-loop
-loop-again c = let done = c .before .before .before .before .before .turn in
+loop-again c = let done = c .before .before .before .before .before .take-turn in
     let L = c .before .before .before .before .before .before .before .before .before .before .before .loop in
     let on = c .if1 .taken in
     (done .ensures .within, λ _. (on, underway-turn (L .s) (done .result) (L .inv .1 (c .before .before .before .before .before .before .before .before .before .before .loop-test .taken) .1) (done .ensures) on))
@@ -70,24 +70,24 @@ loop-less-2 : tie.Need-loop-less-2 Inv-loop μ-loop
 loop-less-2 c = search needs
 
 loop-again-2 : tie.Need-loop-again-2 Inv-loop μ-loop
-loop-again-2 c = let done = c .before .before .before .before .before .turn in
+loop-again-2 c = let done = c .before .before .before .before .before .take-turn in
     (done .ensures .within, λ h. absurd (omega (arith, h)))
 
 returns : tie.Need-returns Inv-loop μ-loop
 returns c = search needs
 
-pub whole-spec : {M : Type 1} → statement M
-whole-spec =
+pub take-turns-spec : {M : Type 1} → statement M
+take-turns-spec =
     tie.close
     (tie.spec
     Inv-loop
     μ-loop
     loop-holds
-    slice-aggregate-turn
-    slice-aggregate-turn-2
-    slice-aggregate-turn-3
-    slice-aggregate-turn-4
-    turn-requires
+    slice-aggregate-take-turn
+    slice-aggregate-take-turn-2
+    slice-aggregate-take-turn-3
+    slice-aggregate-take-turn-4
+    take-turn-requires
     sub-turns
     loop-less
     loop-again

@@ -2,8 +2,8 @@
 use borrow.Author.Needs.{needs}
 use native.Mathlib.Omega.{arith}
 use Rattle.formula_lines.proofs.KeywordLaw.{try-found, try-later, try-far, try-near}
-use Rattle.formula_lines.proofs.try_word.Statement.{statement}
-use Rattle.formula_lines.proofs.try_word.Tie as tie
+use Rattle.formula_lines.proofs.try_keyword.Statement.{statement}
+use Rattle.formula_lines.proofs.try_keyword.Tie as tie
 
 match-word-requires : tie.Need-match-word-requires
 match-word-requires c κs = search needs
@@ -57,8 +57,8 @@ returns-4 c =
     let g = at-others2 .others2 .given in
     λ ks e h. try-near (x .s .now) (x .w .now) (x .at) (m .result) (x .kind) ks e (m .ensures) (x .others) h (at-if1 .if1 .left) (g .0 .0) (g .1) (omega arith)
 
-pub try-word-spec : {M : Type 1} → statement M
-try-word-spec =
+pub try-keyword-spec : {M : Type 1} → statement M
+try-keyword-spec =
     tie.close
     (tie.spec
     match-word-requires

@@ -5,8 +5,8 @@ use lib.ListN.{length-take}
 use lib.Seq.{length-take-le}
 use Rattle.turns.proofs.TurnLaw.{turn-taken, turn-stopped, turn-idle}
 use borrow.Author.Needs.{needs}
-use Rattle.turns.proofs.turn.Statement.{statement}
-use Rattle.turns.proofs.turn.Tie as tie
+use Rattle.turns.proofs.take_turn.Statement.{statement}
+use Rattle.turns.proofs.take_turn.Tie as tie
 
 slice-aggregate-write-all : tie.Need-slice-aggregate-write-all
 slice-aggregate-write-all c = search needs
@@ -28,13 +28,13 @@ slice-aggregate-read c = search needs
 read-requires : tie.Need-read-requires
 read-requires c κs = search needs
 
-unread-requires : tie.Need-unread-requires
-unread-requires c κs = search needs
+stop-unless-interrupted-requires : tie.Need-stop-unless-interrupted-requires
+stop-unless-interrupted-requires c κs = search needs
 
 returns-2 : tie.Need-returns-2
 returns-2 c = let x = c .before .before .before .before .before .before .before .before .before .before .before .args in
     let pre = c .before .before .before .before .before .before .before .before .before .before .before .pre in
-    turn-idle (x .s) (c .unread .result) (pre .0) (pre .1) (c .unread .ensures)
+    turn-idle (x .s) (c .stop-unless-interrupted .result) (pre .0) (pre .1) (c .stop-unless-interrupted .ensures)
 
 slice-aggregate-count : tie.Need-slice-aggregate-count
 slice-aggregate-count c = search needs
@@ -109,8 +109,8 @@ returns-4 c = let x = c .before .before .before .before .before .before .before 
     let done = c .before .before .before .before .before .before .before .before .before .before .before .before .before .before .advance in
     turn-stopped (x .s) (done .result) (c .stop2 .result) (done .ensures .within) (c .stop2 .ensures)
 
-pub turn-spec : {M : Type 1} → statement M
-turn-spec =
+pub take-turn-spec : {M : Type 1} → statement M
+take-turn-spec =
     tie.close
     (tie.spec
     slice-aggregate-write-all
@@ -119,7 +119,7 @@ turn-spec =
     returns
     slice-aggregate-read
     read-requires
-    unread-requires
+    stop-unless-interrupted-requires
     returns-2
     slice-aggregate-count
     count-requires
