@@ -50,8 +50,10 @@ fn gate(out: &mut [u16], n: NodeNo, x: NodeNo, a: NodeNo, r: NodeNo) -> NodeNo
 
 // A Boolean: its operands, then one node.
 fn walk_boolean(t: &[u16], i: NodeNo, out: &mut [u16], n: NodeNo) -> NodeNo
-    requires { ⌜ (pslRefusal (now t) ≡ none) × (i .0 < count (now t)) × (kindAt (now t) (i .0) < 4) × Room (weighB addsS (booleanAt (now t) (i .0))) (n .0) (now out) ⌝ }
-    ensures { λ m. ⌜ Walks (weighB addsS (booleanAt (now (t .entry)) (i .0))) (walkB (booleanAt (now (t .entry)) (i .0))) (n .0) (m .0) (now (out .entry)) (now (out .exit)) ⌝ }
+    requires { ⌜ (pslRefusal (now t) ≡ none) × (i .0 < count (now t)) × (kindAt (now t) (i .0) < 4)
+        × Room (weighB addsS (booleanAt (now t) (i .0))) (n .0) (now out) ⌝ }
+    ensures { λ m. ⌜ Walks (weighB addsS (booleanAt (now (t .entry)) (i .0))) (walkB (booleanAt (now (t .entry)) (i .0)))
+        (n .0) (m .0) (now (out .entry)) (now (out .exit)) ⌝ }
 {
     let at = 3 * (i.0 as usize);
     let kind = t[at];
@@ -74,8 +76,10 @@ fn walk_boolean(t: &[u16], i: NodeNo, out: &mut [u16], n: NodeNo) -> NodeNo
 
 // A Boolean under its gate: weak, strong, and an abort's condition.
 fn literal(t: &[u16], i: NodeNo, a: NodeNo, r: NodeNo, out: &mut [u16], n: NodeNo) -> NodeNo
-    requires { ⌜ (pslRefusal (now t) ≡ none) × (i .0 < count (now t)) × (kindAt (now t) (i .0) < 4) × Room (weighB addsS (booleanAt (now t) (i .0)) + 3) (n .0) (now out) ⌝ }
-    ensures { λ m. ⌜ Walks (weighB addsS (booleanAt (now (t .entry)) (i .0)) + 3) (literalS (booleanAt (now (t .entry)) (i .0)) (a .0) (r .0)) (n .0) (m .0) (now (out .entry)) (now (out .exit)) ⌝ }
+    requires { ⌜ (pslRefusal (now t) ≡ none) × (i .0 < count (now t)) × (kindAt (now t) (i .0) < 4)
+        × Room (weighB addsS (booleanAt (now t) (i .0)) + 3) (n .0) (now out) ⌝ }
+    ensures { λ m. ⌜ Walks (weighB addsS (booleanAt (now (t .entry)) (i .0)) + 3) (literalS (booleanAt (now (t .entry)) (i .0)) (a .0) (r .0))
+        (n .0) (m .0) (now (out .entry)) (now (out .exit)) ⌝ }
 {
     let m = walk_boolean(t, i, out, n);
     gate(out, m, NodeNo(m.0 - 1), a, r)
@@ -90,8 +94,10 @@ fn joining(kind: u16) -> u16
 
 // A formula, with the numbers of accept a and reject r.
 fn walk(t: &[u16], i: NodeNo, a: NodeNo, r: NodeNo, out: &mut [u16], n: NodeNo) -> NodeNo
-    requires { ⌜ (pslRefusal (now t) ≡ none) × (i .0 < count (now t)) × (4 ≤ kindAt (now t) (i .0)) × Room (weigh addsS (formulaAt (now t) (i .0))) (n .0) (now out) ⌝ }
-    ensures { λ m. ⌜ Walks (weigh addsS (formulaAt (now (t .entry)) (i .0))) (walkS (formulaAt (now (t .entry)) (i .0)) (a .0) (r .0)) (n .0) (m .0) (now (out .entry)) (now (out .exit)) ⌝ }
+    requires { ⌜ (pslRefusal (now t) ≡ none) × (i .0 < count (now t)) × (4 ≤ kindAt (now t) (i .0))
+        × Room (weigh addsS (formulaAt (now t) (i .0))) (n .0) (now out) ⌝ }
+    ensures { λ m. ⌜ Walks (weigh addsS (formulaAt (now (t .entry)) (i .0))) (walkS (formulaAt (now (t .entry)) (i .0)) (a .0) (r .0))
+        (n .0) (m .0) (now (out .entry)) (now (out .exit)) ⌝ }
 {
     let at = 3 * (i.0 as usize);
     let kind = t[at];

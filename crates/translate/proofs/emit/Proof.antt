@@ -1,33 +1,53 @@
 -- `translate::emit` meets its contract: true, not 0, then the walk from the root.
 use native.Mathlib.Omega.{arith}
+use mathlib.Core.List.{List}
+use Prim.Native.Nat.{ℕ}
 use Rattle.psl.proofs.AcceptedLaw.{some-node, most-nodes, root-formula}
 use Rattle.translate.proofs.DeliversLaw.{size-of, size-most, emits}
 use borrow.Author.Needs.{needs}
 use Rattle.translate.proofs.emit.Statement.{statement}
 use Rattle.translate.proofs.emit.Tie as tie
 
-sub-t8 : tie.Need-sub-t8
-sub-t8 c = let st = c .before .before in let t = st .args .t .now in let e = st .pre .0 in omega (arith, some-node t e)
+-- Where the lists' lengths are known; the first node, the second.
+abbrev start : tie.After-slice-known → tie.Start
+start n = n .before .before
 
-cast-t9 : tie.Need-cast-t9
-cast-t9 c = let st = c .before .before in let t = st .args .t .now in let e = st .pre .0 in omega (arith, some-node t e, most-nodes t e)
+abbrev table : tie.After-slice-known → List ℕ
+table n = start n .args .t .now
 
-append-requires : tie.Need-append-requires
-append-requires c κs = search needs
+abbrev second : tie.After-walk-arg → tie.After-append2
+second c = c .before .before .before
 
-append-requires-2 : tie.Need-append-requires-2
-append-requires-2 c κs = search needs
-
-walk-requires : tie.Need-walk-requires
-walk-requires c κs = let B = c .before .before .before in let A = B .before .before .before .before in let st = A .before .before .before .before in let t = st .args .t .now in let e = st .pre .0 in (e, omega (arith, some-node t e), root-formula t e, record { space = omega (arith, size-of t, st .pre .1, A .append .ensures .next, B .append2 .ensures .next); fits = omega (arith, size-of t, size-most t e, A .append .ensures .next, B .append2 .ensures .next) })
-
-same-length : tie.Need-same-length
-same-length c = search needs
-
-returns : tie.Need-returns
-returns c = let W = c .before .before in let B = W .before .before .before .before in let A = B .before .before .before .before in let st = A .before .before .before .before in let t = st .args .t .now in emits t (st .pre .1) (A .append .ensures) (B .append2 .ensures) (W .walk .ensures)
+abbrev first : tie.After-append2 → tie.After-append
+first b = b .before .before .before .before
 
 pub emit-spec : {M : Type 1} → statement M
 emit-spec =
-    tie.close
-    (tie.spec sub-t8 cast-t9 append-requires append-requires-2 walk-requires same-length returns)
+    tie.close (tie.spec
+    -- the root's number
+    (λ c. omega (arith, some-node (table c) (start c .pre .0)))
+    (λ c. omega (arith, most-nodes (table c) (start c .pre .0)))
+    -- two nodes, then the walk
+    (λ c κs. search needs)
+    (λ c κs. search needs)
+    (λ c κs.
+    let b = second c in
+    let a = first b in
+    let n = a .before .before in
+    let t = table n in
+    let e = start n .pre .0 in (
+      e,
+      omega (arith, some-node t e),
+      root-formula t e,
+      record {
+        space = omega (arith, size-of t, start n .pre .1, a .append .ensures .next, b .append2 .ensures .next);
+        fits = omega (arith, size-of t, size-most t e, a .append .ensures .next, b .append2 .ensures .next);
+      },
+    ))
+    (λ c. search needs)
+    (λ c.
+    let w = c .before .before in
+    let b = second (w .before) in
+    let a = first b in
+    let n = a .before .before in
+    emits (table n) (start n .pre .1) (a .append .ensures) (b .append2 .ensures) (w .walk .ensures)))

@@ -15,6 +15,12 @@ Inv-loop t n s₀ i₀ s i = SizeSoFar t n s i
 abbrev μ-loop : tie.MeasureT-loop
 μ-loop t n s₀ i₀ s i = n - i
 
+abbrev turn : tie.After-adds Inv-loop μ-loop → tie.At-loop Inv-loop μ-loop
+turn c = c .before .before .before
+
+abbrev start : tie.At-loop Inv-loop μ-loop → tie.Start Inv-loop μ-loop
+start L = L .before .before
+
 loop-holds : tie.Need-loop-holds Inv-loop μ-loop
 unfolding total
 loop-holds c = record { nodes = refl; within = omega arith; sum = refl; low = omega arith }
@@ -32,7 +38,10 @@ adds-requires : tie.Need-adds-requires Inv-loop μ-loop
 adds-requires c κs = search needs
 
 add-s : tie.Need-add-s Inv-loop μ-loop
-add-s c = let L = c .before .before .before in let st = L .before .before in omega (arith, L .loop .inv .low, L .loop .inv .within, L .loop .inv .nodes, most-nodes (st .args .t .now) (st .pre), c .adds .ensures .1)
+add-s c =
+    let L = turn c in
+    let I = L .loop .inv in
+    omega (arith, I .low, I .within, I .nodes, most-nodes (start L .args .t .now) (start L .pre), c .adds .ensures .1)
 
 add-i : tie.Need-add-i Inv-loop μ-loop
 add-i c = search needs
@@ -41,10 +50,10 @@ loop-less : tie.Need-loop-less Inv-loop μ-loop
 loop-less c = search needs
 
 loop-again : tie.Need-loop-again Inv-loop μ-loop
-loop-again c = let L = c .before .before .before in size-next (c .adds .result) (omega arith) (c .adds .ensures .0) (c .adds .ensures .1) (L .loop .inv)
+loop-again c = size-next (c .adds .result) (omega arith) (c .adds .ensures .0) (c .adds .ensures .1) (turn c .loop .inv)
 
 returns : tie.Need-returns Inv-loop μ-loop
-returns c = let L = c .before in let st = L .before .before in size-last (st .pre) (omega arith) (L .loop .inv)
+returns c = let L = c .before in size-last (start L .pre) (omega arith) (L .loop .inv)
 
 pub emitted-size-spec : {M : Type 1} → statement M
 emitted-size-spec =

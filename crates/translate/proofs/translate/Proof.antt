@@ -1,5 +1,9 @@
 -- `translate::translate` meets its contract: the check's refusal, 10, or the emitted table in front.
 use native.Mathlib.Omega.{arith}
+use mathlib.Core.Path.{_≡_}
+use mathlib.Core.Option.{none}
+use mathlib.Core.List.{List}
+use Prim.Native.Nat.{ℕ}
 use Rattle.table.proofs.CheckLaw.{accepted, was-refused}
 use Rattle.psl.specs.Check.{pslRefusal}
 use Rattle.translate.proofs.DeliversLaw.{size-most, refused-check, refused-room, delivered}
@@ -7,47 +11,50 @@ use borrow.Author.Needs.{needs}
 use Rattle.translate.proofs.translate.Statement.{statement}
 use Rattle.translate.proofs.translate.Tie as tie
 
-check-psl-requires : tie.Need-check-psl-requires
-check-psl-requires c κs = search needs
+-- Where the check has answered, and its two answers.
+abbrev start : tie.After-check-psl → tie.Start
+start c = c .before .before .before
 
-enum-known-x : tie.Need-enum-known-x
-enum-known-x c = search needs
+abbrev table : tie.After-check-psl → List ℕ
+table c = start c .args .t .now
 
-enum-told : tie.Need-enum-told
-enum-told c = search needs
+abbrev lent : tie.After-check-psl → List ℕ
+lent c = start c .args .out .now
 
-emitted-size-requires : tie.Need-emitted-size-requires
-emitted-size-requires c κs = let E = c in let C = E .before .before in let st = C .before .before .before in let t = st .args .t .now in let l = st .args .out .now in let e = accepted (pslRefusal t) (C .check-psl .result) (C .check-psl .ensures) (E .enum-told .given .1) in e
+abbrev refuses : tie.After-x → tie.After-check-psl
+refuses x = x .before .before
 
-mul-if1 : tie.Need-mul-if1
-mul-if1 c = let E = c .before in let C = E .before .before in let st = C .before .before .before in let t = st .args .t .now in let l = st .args .out .now in let e = accepted (pslRefusal t) (C .check-psl .result) (C .check-psl .ensures) (E .enum-told .given .1) in omega (arith, c .emitted-size .ensures, size-most t e)
+abbrev accepts : tie.After-enum-told → tie.After-check-psl
+accepts e = e .before .before
 
-returns : tie.Need-returns
-returns c = let Z = c .before in let E = Z .before in let C = E .before .before in let st = C .before .before .before in let t = st .args .t .now in let l = st .args .out .now in let e = accepted (pslRefusal t) (C .check-psl .result) (C .check-psl .ensures) (E .enum-told .given .1) in refused-room t l e (omega (arith, Z .emitted-size .ensures, c .if1 .taken))
-
-emit-requires : tie.Need-emit-requires
-emit-requires c κs = let el = c .before in let Z = el .before in let E = Z .before in let C = E .before .before in let st = C .before .before .before in let t = st .args .t .now in let l = st .args .out .now in let e = accepted (pslRefusal t) (C .check-psl .result) (C .check-psl .ensures) (E .enum-told .given .1) in (e, omega (arith, Z .emitted-size .ensures, el .if1 .left))
-
-returns-2 : tie.Need-returns-2
-returns-2 c = let X = c .before in let C = X .before .before in let st = C .before .before .before in let t = st .args .t .now in let l = st .args .out .now in refused-check t l (was-refused (pslRefusal t) (C .check-psl .result) _ (C .check-psl .ensures) (X .x .given .1))
-
-same-length : tie.Need-same-length
-same-length c = search needs
-
-returns-3 : tie.Need-returns-3
-returns-3 c = let M = c .before .before in let el = M .before .before in let Z = el .before in let E = Z .before in let C = E .before .before in let st = C .before .before .before in let t = st .args .t .now in let l = st .args .out .now in let e = accepted (pslRefusal t) (C .check-psl .result) (C .check-psl .ensures) (E .enum-told .given .1) in delivered t l e (Z .emitted-size .ensures) (omega (arith, el .if1 .left)) (M .emit .ensures)
+fine : (e : tie.After-enum-told) → pslRefusal (table (accepts e)) ≡ none
+fine e = let c = accepts e in accepted (pslRefusal (table c)) (c .check-psl .result) (c .check-psl .ensures) (e .enum-told .given .1)
 
 pub translate-spec : {M : Type 1} → statement M
 translate-spec =
-    tie.close
-    (tie.spec
-    check-psl-requires
-    enum-known-x
-    enum-told
-    emitted-size-requires
-    mul-if1
-    returns
-    emit-requires
-    returns-2
-    same-length
-    returns-3)
+    tie.close (tie.spec
+    -- the check, the size
+    (λ c κs. search needs)
+    (λ c. search needs)
+    (λ c. search needs)
+    (λ c κs. fine c)
+    (λ c. let e = c .before in omega (arith, c .emitted-size .ensures, size-most (table (accepts e)) (fine e)))
+    -- no room
+    (λ c.
+    let z = c .before in
+    let e = z .before in
+    refused-room (table (accepts e)) (lent (accepts e)) (fine e) (omega (arith, z .emitted-size .ensures, c .if1 .taken)))
+    (λ c κs. let z = c .before .before in (fine (z .before), omega (arith, z .emitted-size .ensures, c .before .if1 .left)))
+    -- a refused table
+    (λ c.
+    let x = c .before in
+    let k = refuses x in
+    refused-check (table k) (lent k) (was-refused (pslRefusal (table k)) (k .check-psl .result) _ (k .check-psl .ensures) (x .x .given .1)))
+    -- the table in front
+    (λ c. search needs)
+    (λ c.
+    let m = c .before .before in
+    let r = m .before .before in
+    let z = r .before in
+    let e = z .before in
+    delivered (table (accepts e)) (lent (accepts e)) (fine e) (z .emitted-size .ensures) (omega (arith, r .if1 .left)) (m .emit .ensures)))

@@ -51,80 +51,17 @@ below u e =
 loop-holds : tie.Need-loop-holds Inv-loop μ-loop
 loop-holds c = (search needs, omega arith, refl, search needs, told-none, known-none)
 
-mul-kind : tie.Need-mul-kind Inv-loop μ-loop
-mul-kind c = search needs
-
-mul-kind-2 : tie.Need-mul-kind-2 Inv-loop μ-loop
-mul-kind-2 c = search needs
-
-shared-slice-read-kind : tie.Need-shared-slice-read-kind Inv-loop μ-loop
-shared-slice-read-kind c = search needs
-
-mul-left : tie.Need-mul-left Inv-loop μ-loop
-mul-left c = search needs
-
-add-left : tie.Need-add-left Inv-loop μ-loop
-add-left c = search needs
-
-mul-left-2 : tie.Need-mul-left-2 Inv-loop μ-loop
-mul-left-2 c = search needs
-
-shared-slice-read-left : tie.Need-shared-slice-read-left Inv-loop μ-loop
-shared-slice-read-left c = search needs
-
-mul-right : tie.Need-mul-right Inv-loop μ-loop
-mul-right c = search needs
-
-add-right : tie.Need-add-right Inv-loop μ-loop
-add-right c = search needs
-
-mul-right-2 : tie.Need-mul-right-2 Inv-loop μ-loop
-mul-right-2 c = search needs
-
-shared-slice-read-right : tie.Need-shared-slice-read-right Inv-loop μ-loop
-shared-slice-read-right c = search needs
-
-slice-aggregate-learn : tie.Need-slice-aggregate-learn Inv-loop μ-loop
-slice-aggregate-learn c = search needs
-
-learn-requires : tie.Need-learn-requires Inv-loop μ-loop
-learn-requires c κs = search needs
-
-slice-aggregate-word : tie.Need-slice-aggregate-word Inv-loop μ-loop
-slice-aggregate-word c = search needs
-
 word-requires : tie.Need-word-requires Inv-loop μ-loop
 word-requires c κs =
     let l = c .before .before in
     let u = l .before .before .before in
     omega (arith, signal-below u (l .before .before .if1 .taken), l .learn .kept .1 .1 .0, turn u .loop .inv .3)
 
-mul-told : tie.Need-mul-told Inv-loop μ-loop
-mul-told c = search needs
-
-slice-write-told : tie.Need-slice-write-told Inv-loop μ-loop
-slice-write-told c = search needs
-
 word-requires-2 : tie.Need-word-requires-2 Inv-loop μ-loop
 word-requires-2 c κs = below (c .before .before) (c .before .if1 .left) .0
 
 word-requires-3 : tie.Need-word-requires-3 Inv-loop μ-loop
 word-requires-3 c κs = let e = c .before .before .before in below (e .before) (e .if1 .left) .1
-
-node-row-requires : tie.Need-node-row-requires Inv-loop μ-loop
-node-row-requires c κs = search needs
-
-mul-told-2 : tie.Need-mul-told-2 Inv-loop μ-loop
-mul-told-2 c = search needs
-
-slice-write-told-2 : tie.Need-slice-write-told-2 Inv-loop μ-loop
-slice-write-told-2 c = search needs
-
-add-i : tie.Need-add-i Inv-loop μ-loop
-add-i c = search needs
-
-loop-less : tie.Need-loop-less Inv-loop μ-loop
-loop-less c = search needs
 
 -- A row for node i.
 one-more : (u : tie.After-shared-slice-known6 Inv-loop μ-loop) (v : ℕ)
@@ -164,12 +101,14 @@ filled c =
     ⊎-elim
     (λ w.
     let K = w .2 .ensures few (signal-below u (w .0 .taken)) (omega (arith, I .3)) (I .5) in
-    let row = subst (λ (x : ℕ). Tells (a .lead .now) (a .cycle .now) x (lvar (leftAt t i))) (sym (w .5 .ensures)) (K .0 .row (leftAt t i) (signal-below u (w .0 .taken)) (K .1)) in
+    let row = subst (λ (x : ℕ). Tells (a .lead .now) (a .cycle .now) x (lvar (leftAt t i))) (sym (w .5 .ensures))
+    (K .0 .row (leftAt t i) (signal-below u (w .0 .taken)) (K .1)) in
     rw (w .6, w .7, w .8) (simp length-set (I .2), w .2 .kept .1 .1 .0 ∙ I .3, one-more u (w .5 .result) (tells-signal (w .0 .taken) row), K .0))
     (λ w.
     let node = TellsNode (a .lead .now) (a .cycle .now) (kindAt t i) (leftAt t i) in
     let N = w .5 .ensures (a .lead .now) (a .cycle .now) (leftAt t i) few refl (w .0 .left) in
-    let M = subst (λ (y : ℕ). node (getD W (leftAt t i) 0) y (w .5 .result)) (w .4 .ensures) (subst (λ (x : ℕ). node x (w .4 .result) (w .5 .result)) (w .2 .ensures) N) in
+    let M = subst (λ (y : ℕ). node (getD W (leftAt t i) 0) y (w .5 .result)) (w .4 .ensures)
+    (subst (λ (x : ℕ). node x (w .4 .result) (w .5 .result)) (w .2 .ensures) N) in
     rw (w .6, w .7, w .8) (simp length-set (I .2), I .3, one-more u (w .5 .result) M, I .5))
     (c .if1 .came)
 
@@ -179,43 +118,44 @@ loop-again c =
     let next = filled c in
     (I .0, omega arith, next .0, next .1, next .2, next .3)
 
-same-length : tie.Need-same-length Inv-loop μ-loop
-same-length c = search needs
-
 returns : tie.Need-returns Inv-loop μ-loop
 returns c = let I = c .before .loop .inv in told-all (omega (arith, I .0, I .1)) (I .4)
 
 pub fill-rows-spec : {M : Type 1} → statement M
 fill-rows-spec =
-    tie.close
-    (tie.spec
+    tie.close (tie.spec
     Inv-loop
     μ-loop
     loop-holds
-    mul-kind
-    mul-kind-2
-    shared-slice-read-kind
-    mul-left
-    add-left
-    mul-left-2
-    shared-slice-read-left
-    mul-right
-    add-right
-    mul-right-2
-    shared-slice-read-right
-    slice-aggregate-learn
-    learn-requires
-    slice-aggregate-word
+    -- the node's numbers
+    (λ c. search needs)
+    (λ c. search needs)
+    (λ c. search needs)
+    (λ c. search needs)
+    (λ c. search needs)
+    (λ c. search needs)
+    (λ c. search needs)
+    (λ c. search needs)
+    (λ c. search needs)
+    (λ c. search needs)
+    (λ c. search needs)
+    -- a signal
+    (λ c. search needs)
+    (λ c κs. search needs)
+    (λ c. search needs)
     word-requires
-    mul-told
-    slice-write-told
+    (λ c. search needs)
+    (λ c. search needs)
+    -- another node
     word-requires-2
     word-requires-3
-    node-row-requires
-    mul-told-2
-    slice-write-told-2
-    add-i
-    loop-less
+    (λ c κs. search needs)
+    (λ c. search needs)
+    (λ c. search needs)
+    -- the turn
+    (λ c. search needs)
+    (λ c. search needs)
     loop-again
-    same-length
+    -- the end
+    (λ c. search needs)
     returns)

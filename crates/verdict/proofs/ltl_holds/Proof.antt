@@ -2,81 +2,69 @@
 use borrow.Author.Needs.{needs}
 use native.Mathlib.Omega.{arith}
 use mathlib.Core.Path.{refl}
+use mathlib.Core.List.{List}
+use Prim.Native.Nat.{ℕ, _-_, _≤_, _<_}
+use lib.ListN.{getD}
+use Rattle.table.specs.Node.{count}
 use Rattle.ltl.specs.Table.{treeOf}
 use Rattle.ltl.proofs.AcceptedLaw.{some-node, most-nodes}
+use Rattle.rows.specs.Rows.{Tells, RowsOf}
 use Rattle.rows.proofs.TableLaw.{rows-root}
 use Rattle.verdict.proofs.ltl_holds.Statement.{statement}
 use Rattle.verdict.proofs.ltl_holds.Tie as tie
 
-sub-last : tie.Need-sub-last
-sub-last c = let st = c .before .before .before in omega (arith, some-node (st .args .t .now) (st .pre .0))
+-- Where the lengths of the three lists are known.
+abbrev Known : Type 0
+Known = tie.After-shared-slice-known3
 
-add-letters : tie.Need-add-letters
-add-letters c = search needs
+abbrev start : Known → tie.Start
+start n = n .before .before .before
 
-slice-aggregate-fill-rows : tie.Need-slice-aggregate-fill-rows
-slice-aggregate-fill-rows c = search needs
+abbrev table : Known → List ℕ
+table n = start n .args .t .now
 
-fill-rows-requires : tie.Need-fill-rows-requires
-fill-rows-requires c κs = search needs
+abbrev lead : Known → List ℕ
+lead n = start n .args .lead .now
 
-mul-at-first : tie.Need-mul-at-first
-mul-at-first c = search needs
+abbrev cycle : Known → List ℕ
+cycle n = start n .args .cycle .now
 
-array-read-at-first : tie.Need-array-read-at-first
-array-read-at-first c = search needs
+-- Where the rows are filled in, in the small array or in the large one.
+abbrev small : tie.After-few2 → Known
+small c = c .before .before .before .before
 
-at-first-requires : tie.Need-at-first-requires
-at-first-requires c κs = search needs
+abbrev large : tie.After-told2 → Known
+large c = c .before .before .before .before
 
-returns : tie.Need-returns
-returns c =
-    let F = c .before .before in
-    let st = F .before .before .before .before .before .before in
-    let t = st .args .t .now in
-    let row = rows-root t _ (some-node t (st .pre .0)) (F .fill-rows .ensures) in
-    c .at-first .ensures (st .args .lead .now) (st .args .cycle .now) (treeOf t) (st .pre .1) refl row
+nodes : (n : Known) → (0 < count (table n)) × (count (table n) ≤ 4096)
+nodes n = let fine = start n .pre .0 in (some-node (table n) fine, most-nodes (table n) fine)
 
-slice-aggregate-fill-rows-2 : tie.Need-slice-aggregate-fill-rows-2
-slice-aggregate-fill-rows-2 c = search needs
-
-fill-rows-requires-2 : tie.Need-fill-rows-requires-2
-fill-rows-requires-2 c κs = let st = c .before .before .before .before .before in (st .pre .0, st .pre .1, most-nodes (st .args .t .now) (st .pre .0))
-
-mul-at-first-2 : tie.Need-mul-at-first-2
-mul-at-first-2 c = search needs
-
-array-read-at-first-2 : tie.Need-array-read-at-first-2
-array-read-at-first-2 c =
-    let st = c .before .before .before .before .before .before .before in
-    omega (arith, some-node (st .args .t .now) (st .pre .0), most-nodes (st .args .t .now) (st .pre .0))
-
-at-first-requires-2 : tie.Need-at-first-requires-2
-at-first-requires-2 c κs = search needs
-
-returns-2 : tie.Need-returns-2
-returns-2 c =
-    let F = c .before .before in
-    let st = F .before .before .before .before .before .before in
-    let t = st .args .t .now in
-    let row = rows-root t _ (some-node t (st .pre .0)) (F .fill-rows2 .ensures) in
-    c .at-first2 .ensures (st .args .lead .now) (st .args .cycle .now) (treeOf t) (st .pre .1) refl row
+root : (n : Known) (w : List ℕ) → RowsOf (lead n) (cycle n) (table n) w → Tells (lead n) (cycle n) (getD w (count (table n) - 1) 0) (treeOf (table n))
+root n w r = rows-root (table n) w (nodes n .0) r
 
 pub ltl-holds-spec : {M : Type 1} → statement M
 ltl-holds-spec =
-    tie.close
-    (tie.spec
-    sub-last
-    add-letters
-    slice-aggregate-fill-rows
-    fill-rows-requires
-    mul-at-first
-    array-read-at-first
-    at-first-requires
-    returns
-    slice-aggregate-fill-rows-2
-    fill-rows-requires-2
-    mul-at-first-2
-    array-read-at-first-2
-    at-first-requires-2
-    returns-2)
+    tie.close (tie.spec
+    -- the root's number and the letters
+    (λ c. omega (arith, nodes c .0))
+    (λ c. search needs)
+    -- few nodes
+    (λ c. search needs)
+    (λ c κs. search needs)
+    (λ c. search needs)
+    (λ c. search needs)
+    (λ c κs. search needs)
+    (λ c.
+    let r = c .before in
+    let n = small r in
+    c .at-first .ensures (lead n) (cycle n) (treeOf (table n)) (start n .pre .1) refl (root n _ (r .before .fill-rows .ensures)))
+    -- more nodes
+    (λ c. search needs)
+    (λ c κs. let n = c .before .before in (start n .pre .0, start n .pre .1, nodes n .1))
+    (λ c. search needs)
+    (λ c. omega (arith, nodes (large c)))
+    (λ c κs. search needs)
+    (λ c.
+    let r = c .before in
+    let n = large r in
+    c .at-first2 .ensures (lead n) (cycle n) (treeOf (table n)) (start n .pre .1) refl (root n _ (r .before .fill-rows2 .ensures))))
