@@ -1,6 +1,6 @@
 -- What each way out of the reader of a formula line gives, in terms of how formulas are spelled.
 use mathlib.Core.Path.{_≡_, refl, ap, sym, subst, _∙_}
-use mathlib.Core.Bool.{Bool, true, false, _&&_, _||_}
+use mathlib.Core.Bool.{Bool, true, false, _&&_, _||_, or-false, or-assoc}
 use mathlib.Core.Option.{none, some}
 use mathlib.Core.List.{List, [], _∷_, _++_, append-assoc, append-nil, append-cancel-left}
 use Prim.Native.Nat.{ℕ, suc, _+_, _*_, _<_, _≤_}
@@ -28,7 +28,6 @@ use Rattle.lines.specs.declared.formula.Read.{Read}
 use Rattle.lines.specs.declared.formula.Read.the-variants.{Got, No}
 use Rattle.lines.proofs.PlaceLaw.{agree-self, stands-one, stands-join, stops-here, halts-first, begins-first, halts-after, stops-line, Nothing, stops-end}
 use Rattle.lines.proofs.ReadingLaw.{breaks-at, front-sets}
-use Rattle.lines.proofs.StoreLaw.{or-false-right, or-assoc}
 use Rattle.lines.proofs.FormLaw.{var-arity}
 use Rattle.lines.proofs.FormulaLaw.{form, form-sorted, form-bytes, form-nodes, as-formula, spell-unique, line-unique, formula-injective}
 
@@ -39,7 +38,7 @@ over (node k l r) = eqb k 1 && leb signals l
 
 large-more : (ns : List Node) (n : Node) → largeSignal (ns ▸ n) ≡ (largeSignal ns || over n)
 unfolding over
-large-more [] (node k l r) = or-false-right _
+large-more [] (node k l r) = or-false _
 large-more (node k l r ∷ ns) n = ap (λ (b : Bool). (eqb k 1 && leb signals l) || b) (large-more ns n) ∙ sym (or-assoc (eqb k 1 && leb signals l) (largeSignal ns) (over n))
 
 -- The node of a form with operands is no variable.
@@ -48,7 +47,7 @@ unfolding over
 large-same ns k a b z =
     large-more ns (node k a b)
     ∙ ap (λ (c : Bool). largeSignal ns || (c && leb signals a)) (ne-eqb k 1 (λ e. z (ap arity e ∙ var-arity)))
-    ∙ or-false-right (largeSignal ns)
+    ∙ or-false (largeSignal ns)
 
 pub closed-large : (f : Form) (so : ℕ) → Sorted so f → (ns : List Node) → largeSignal (closed f ns) ≡ (largeSignal ns || wide f)
 unfolding closed wide over

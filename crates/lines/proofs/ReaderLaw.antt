@@ -12,6 +12,7 @@ use lib.Dec.{T, leb}
 use Rattle.trace.specs.Letter.{signals}
 use Rattle.table.specs.Node.{Node, node, numbersOf, _▸_, last}
 use Rattle.table.proofs.NodeLaw.{length-numbers, length-more}
+use Rattle.table.proofs.CheckLaw.{either-false}
 use Rattle.lines.specs.Text.{text}
 use Rattle.lines.specs.Spelling.{digits}
 use Rattle.lines.specs.Inner.Places.{byteAt, Stands, Agree, Language, Begins, Halts, Stops}
@@ -21,7 +22,7 @@ use Rattle.lines.specs.Inner.Form.{Form, truth, signal, one, two, word, 
 use Rattle.lines.specs.Inner.Reader.{WordOf, Known, FormOf, OperandsOf, filled, FormStands, Ended, OperandsStand}
 use Rattle.lines.proofs.PlaceLaw.{agree-byte, byte-drop, stands-one, stands-join, stops-here, halts-first, begins-first, halts-after}
 use Rattle.lines.proofs.ScanLaw.{no-digit-agree}
-use Rattle.lines.proofs.StoreLaw.{or-false, sets-sets}
+use Rattle.lines.proofs.StoreLaw.{sets-sets}
 use Rattle.lines.proofs.FormLaw.{View, view, kind-fact, kind-sorted, kind-bytes, none-of, one-of, two-of, form-unique, operands-unique, sample, sample-sorted, sample-open, kind-sample, open-bytes, word-kind, var-arity}
 
 -- ── The lent list ──
@@ -315,7 +316,7 @@ module _ {s : List ℕ} {at : ℕ} (k : ℕ) where
             counted = λ ns i. length-more (closed g (closed f ns)) _ ∙ ap (λ (m : ℕ). m + 1) (c .counted (closed f ns) (a .counted ns i));
             signals = u ∙ ap (λ (y : Bool). y || more) (a .signals) ∙ ap (λ (y : Bool). wide f || y) (c .signals);
             written = λ x l₀ ns i d.
-                let (p, q) = or-false large more (sym u ∙ x) in
+                let (p, q) = either-false large more (sym u ∙ x) in
                 let j = a .counted ns i in
                 let r = c .counted (closed f ns) j in
                 ap (λ (y : List ℕ). sets y (3 * all) (k ∷ (nodes - 1) ∷ (all - 1) ∷ [])) (c .written q l₀ (closed f ns) j (a .written p l₀ ns i d))
