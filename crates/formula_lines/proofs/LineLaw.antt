@@ -1,6 +1,6 @@
 -- What each way out of the reader of a formula line gives, in terms of how formulas are spelled.
 use mathlib.Core.Path.{_≡_, refl, ap, sym, subst, _∙_}
-use mathlib.Core.Bool.{Bool, true, false, _&&_, _||_}
+use mathlib.Core.Bool.{Bool, true, false, _&&_, _||_, or-false, or-assoc}
 use mathlib.Core.Option.{none, some}
 use mathlib.Core.List.{List, [], _∷_, _++_, append-assoc, append-nil, append-cancel-left}
 use Prim.Native.Nat.{ℕ, suc, _+_, _*_, _<_, _≤_}
@@ -14,23 +14,21 @@ use Rattle.table.specs.Node.{Node, node, numbersOf, _▸_}
 use Rattle.table.proofs.NodeLaw.{length-numbers}
 use Rattle.logic.specs.Formula.{btrue, Formula, weak}
 use Rattle.table.specs.Answer.{refused}
-use Rattle.text.specs.Text.{text}
-use Rattle.formula_lines.specs.Spelling.{spell, formulaLine}
-use Rattle.formula_lines.specs.Closing.{table}
-use Rattle.text.specs.Limits.{mostBytes}
-use Rattle.text.specs.Reading.{long, breaks, spells}
-use Rattle.formula_lines.specs.FormulaAnswer.{largeSignal, formulaLimits, formulaRefusal, FormulaAnswer}
-use Rattle.text.specs.Inner.Places.{byteAt, Stands, Agree, Begins, Stops, StopsLine}
-use Rattle.formula_lines.specs.Inner.Form.{Form, truth, signal, one, two, arity, Sorted, bytes, closed, wide}
-use Rattle.formula_lines.specs.Inner.Reader.{FormOf, filled, FormStands, SpellsFormula, WholeStands, WholeRead}
-use Rattle.formula_lines.specs.declared.FormulaLine.the-variants.{Nodes, Refused}
-use Rattle.formula_lines.specs.declared.Read.{Read}
-use Rattle.formula_lines.specs.declared.Read.the-variants.{Found, FaultAt}
-use Rattle.text.proofs.PlaceLaw.{agree-self, stands-one, stands-join, stops-here, halts-first, begins-first, halts-after, stops-line, Nothing, stops-end}
-use Rattle.text.proofs.ReadingLaw.{breaks-at, front-sets}
-use Rattle.text.proofs.StoreLaw.{or-false-right, or-assoc}
-use Rattle.formula_lines.proofs.FormLaw.{var-arity}
-use Rattle.formula_lines.proofs.FormulaLaw.{form, form-sorted, form-bytes, form-nodes, as-formula, spell-unique, line-unique, formula-injective}
+use Rattle.lines.specs.Text.{text}
+use Rattle.lines.specs.Spelling.{spell, formulaLine}
+use Rattle.lines.specs.Closing.{table}
+use Rattle.lines.specs.Limits.{mostBytes}
+use Rattle.lines.specs.Reading.{long, breaks, spells}
+use Rattle.lines.specs.FormulaAnswer.{largeSignal, formulaLimits, formulaRefusal, FormulaAnswer}
+use Rattle.lines.specs.Inner.Places.{byteAt, Stands, Agree, Begins, Stops, StopsLine}
+use Rattle.lines.specs.Inner.Form.{Form, truth, signal, one, two, arity, Sorted, bytes, closed, wide}
+use Rattle.lines.specs.Inner.Reader.{FormOf, filled, FormStands, WholeStands, WholeRead}
+use Rattle.lines.specs.declared.formula.Line.the-variants.{Nodes, Refused}
+use Rattle.lines.specs.declared.formula.Read.{Read}
+use Rattle.lines.proofs.PlaceLaw.{agree-self, stands-one, stands-join, stops-here, halts-first, begins-first, halts-after, stops-line, Nothing, stops-end}
+use Rattle.lines.proofs.ReadingLaw.{breaks-at, front-sets}
+use Rattle.lines.proofs.FormLaw.{var-arity}
+use Rattle.lines.proofs.FormulaLaw.{form, form-sorted, form-bytes, form-nodes, as-formula, spell-unique, line-unique, formula-injective}
 
 -- ── Signals ──
 
@@ -39,7 +37,7 @@ over (node k l r) = eqb k 1 && leb signals l
 
 large-more : (ns : List Node) (n : Node) → largeSignal (ns ▸ n) ≡ (largeSignal ns || over n)
 unfolding over
-large-more [] (node k l r) = or-false-right _
+large-more [] (node k l r) = or-false _
 large-more (node k l r ∷ ns) n = ap (λ (b : Bool). (eqb k 1 && leb signals l) || b) (large-more ns n) ∙ sym (or-assoc (eqb k 1 && leb signals l) (largeSignal ns) (over n))
 
 -- The node of a form with operands is no variable.
@@ -48,7 +46,7 @@ unfolding over
 large-same ns k a b z =
     large-more ns (node k a b)
     ∙ ap (λ (c : Bool). largeSignal ns || (c && leb signals a)) (ne-eqb k 1 (λ e. z (ap arity e ∙ var-arity)))
-    ∙ or-false-right (largeSignal ns)
+    ∙ or-false (largeSignal ns)
 
 pub closed-large : (f : Form) (so : ℕ) → Sorted so f → (ns : List Node) → largeSignal (closed f ns) ≡ (largeSignal ns || wide f)
 unfolding closed wide over

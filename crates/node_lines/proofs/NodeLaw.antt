@@ -15,7 +15,7 @@ use Rattle.table.specs.Answer.{refused, checked}
 use Rattle.table.specs.Check.{known, shapeOf, nodeRefusal}
 use Rattle.table.specs.declared.Checked.{Checked}
 use Rattle.table.specs.declared.Checked.the-variants as Checked
-use Rattle.table.proofs.CheckLaw.{both-true, unless-none, accepted, was-refused, Fits, places-fit}
+use Rattle.table.proofs.CheckLaw.{unless-none, accepted, was-refused, Fits, places-fit}
 use Rattle.table.proofs.KindLaw.{_⨾_, each}
 use Rattle.ltl.specs.Check.{ltlRules}
 use Rattle.text.specs.Text.{text}
@@ -40,7 +40,7 @@ answers i n l m x o e v w = (v ∙ ap (λ (y : Option Refusal). answerTo y (node
 
 kind-low : (i k p q : ℕ) → nodeRefusal ltlRules i (node k p q) false false ≡ none → k < 7
 unfolding nodeRefusal
-kind-low i k p q e = ltb-true k 7 (both-true _ _ (unless-none (known ltlRules k) _ _ e .0) .0)
+kind-low i k p q e = ltb-true k 7 (unless-none (known ltlRules k) _ _ e .0)
 
 module _ (i k p q : ℕ) (l : List ℕ) where
   pub own-large : 4096 ≤ i → Answers i (node k p q) l (Refused (refused 11)) l
@@ -91,10 +91,10 @@ Tidy zero p q = (p ≡ 0) × (q ≡ 0)
 Tidy (suc zero) p q = q ≡ 0
 Tidy (suc (suc n)) p q = Unit {0}
 
-tidy : (i k p q : ℕ) → k < 7 → Fits (shapeOf ltlRules k .0) p i false → Fits (shapeOf ltlRules k .1) q i false → Tidy (ltlPlaces k) p q
+tidy : (i k p q : ℕ) → k < 7 → Fits ltlRules (shapeOf ltlRules k .0) p i false → Fits ltlRules (shapeOf ltlRules k .1) q i false → Tidy (ltlPlaces k) p q
 unfolding ltlPlaces
 tidy i k p q =
-    each (λ k. Fits (shapeOf ltlRules k .0) p i false → Fits (shapeOf ltlRules k .1) q i false → Tidy (ltlPlaces k) p q) 7
+    each (λ k. Fits ltlRules (shapeOf ltlRules k .0) p i false → Fits ltlRules (shapeOf ltlRules k .1) q i false → Tidy (ltlPlaces k) p q) 7
     ((λ a b. (omega (arith, a .low), omega (arith, b .low)))
     ⨾ (λ a b. omega (arith, b .low))
     ⨾ (λ a b. omega (arith, b .low))
@@ -114,7 +114,7 @@ unfolding nodeRefusal
 is-tidy i k p q e =
     let d = unless-none (ltb i 4096) (refused 11) _ e .1 in
     let low = kind-low i k p q d in
-    let (a, b) = places-fit (ltlRules .numbers) (shapeOf ltlRules k) i p q false false (unless-none (known ltlRules k) _ _ d .1) in
+    let (a, b) = places-fit ltlRules (shapeOf ltlRules k) i p q false false (unless-none (known ltlRules k) _ _ d .1) in
     (low, tidy i k p q low a b)
 
 pub node-injective : (i j : ℕ) (m n : Node) → nodeFault i m ≡ none → nodeFault j n ≡ none → nodeLine i m ≡ nodeLine j n → (i ≡ j) × (m ≡ n)

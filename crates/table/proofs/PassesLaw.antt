@@ -49,6 +49,16 @@ module _ (R : Rules) where
     fits-same g (λ d. ap isBool (e r (omega (arith, fit-below g d)))),
   )
 
+  -- From a on, and then from the end of ms on, in a list that begins with ms.
+  pub pass-join : {a : ℕ} {ms ps : List Node} → ((i : ℕ) → i < length ms → nodeOf ps i ≡ nodeOf ms i) → PassFrom a ms → PassFrom (length ms) ps → PassFrom a ps
+  pass-join {a} {ms} {ps} e f g =
+      record {
+        at = λ i h l. elim (decLt i (length ms)) [
+          | yes d ↦ subst (Passes ps i) (sym (e i d)) (passes-kept ms ps e i (nodeOf ms i) (omega arith) (f .at i h d))
+          | no d ↦ g .at i (omega arith) l
+        ];
+      }
+
   pub pass-none : PassFrom 0 []
   pass-none = record { at = λ i a h. absurd (omega arith) }
 

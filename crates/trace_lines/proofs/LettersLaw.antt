@@ -1,6 +1,6 @@
 -- What each way out of the readers of letters gives.
 use mathlib.Core.Path.{_≡_, refl, ap, sym, subst, _∙_}
-use mathlib.Core.Bool.{Bool, true, false, _||_}
+use mathlib.Core.Bool.{Bool, true, false, _||_, or-false, or-assoc}
 use mathlib.Core.List.{List, [], _∷_, _++_, append-assoc, append-nil, head-eq-of-cons-eq, tail-eq-of-cons-eq}
 use Prim.Native.Nat.{ℕ, suc, _+_, _^_, _<_, _≤_}
 use native.Mathlib.Omega.{arith}
@@ -9,18 +9,18 @@ use lib.ListN.{length, drop, set, length-append}
 use lib.Seq.{sets}
 use lib.Dec.{leb}
 use Rattle.logic.specs.Letter.{signals}
-use Rattle.text.specs.Spelling.{digits}
-use Rattle.text.specs.Inner.Places.{byteAt, Stands, Agree, Language, Begins, Halts, Stops}
-use Rattle.text.specs.Inner.Number.{Numeral, Numbered}
-use Rattle.text.specs.Inner.Scan.{NumberStands}
-use Rattle.trace_lines.specs.TraceAnswer.{largeLetter}
-use Rattle.trace_lines.specs.Inner.LettersReader.{LetterStands, further, listed, Any, Some, Spelled, LettersStand, LettersRead}
-use Rattle.trace_lines.specs.declared.Letters.{Letters}
-use Rattle.trace_lines.specs.declared.Letters.the-variants.{Found, FaultAt}
-use Rattle.text.proofs.PlaceLaw.{agree-byte, byte-drop, stands-one, stands-join, halts-first, halts-after}
-use Rattle.text.proofs.NumberLaw.{digits-unique, digits-first, ending-no-digit, ending-unique}
-use Rattle.text.proofs.ScanLaw.{no-digit-agree}
-use Rattle.text.proofs.StoreLaw.{or-false, or-false-right, or-assoc, sets-sets}
+use Rattle.table.proofs.CheckLaw.{either-false}
+use Rattle.lines.specs.Spelling.{digits}
+use Rattle.lines.specs.Inner.Places.{byteAt, Stands, Agree, Language, Begins, Halts, Stops}
+use Rattle.lines.specs.Inner.Number.{Numeral, Numbered}
+use Rattle.lines.specs.Inner.Scan.{NumberStands}
+use Rattle.lines.specs.TraceAnswer.{largeLetter}
+use Rattle.lines.specs.Inner.LettersReader.{LetterStands, further, listed, Any, Some, Spelled, LettersStand, LettersRead}
+use Rattle.lines.specs.declared.traces.Letters.{Letters}
+use Rattle.lines.proofs.PlaceLaw.{agree-byte, byte-drop, stands-one, stands-join, halts-first, halts-after}
+use Rattle.lines.proofs.NumberLaw.{digits-unique, digits-first}
+use Rattle.lines.proofs.ScanLaw.{no-digit-agree}
+use Rattle.lines.proofs.StoreLaw.{sets-sets}
 
 abbrev Further : Language
 Further = Spelled further Any
@@ -115,9 +115,9 @@ one-more {s} {at} {n} {i} {count} {next} {more} {large} {wide} {l} {l′} {l″}
       within = m .stands .within;
       few = omega (arith, f .few, a .counted, m .more);
       counted = omega (arith, a .counted, f .counted, length-append (f .letters) (x ∷ []));
-      wide = e ∙ ap (λ (y : Bool). y || wide) (f .wide) ∙ ap (λ (y : Bool). largeLetter (f .letters) || y) (a .wide ∙ sym (or-false-right _)) ∙ sym (large-append (f .letters) (x ∷ []));
+      wide = e ∙ ap (λ (y : Bool). y || wide) (f .wide) ∙ ap (λ (y : Bool). largeLetter (f .letters) || y) (a .wide ∙ sym (or-false _)) ∙ sym (large-append (f .letters) (x ∷ []));
       written = λ z.
-          let (p, q) = or-false large wide (sym e ∙ z) in
+          let (p, q) = either-false large wide (sym e ∙ z) in
           a .written q ∙ ap (λ (y : List ℕ). set y count x) (f .written p) ∙ sets-sets (f .letters) (x ∷ []) l n count (sym (f .counted));
       stops = λ c. f .stops (halts-after (stands-join o (m .stands)) c (λ w (ys, _, d). (x ∷ ys, tt, ap (λ (y : List ℕ). 32 ∷ (digits x ++ y)) d)) (dec (c .after)));
       stands = λ ys end c.
@@ -173,7 +173,7 @@ module _ {s : List ℕ} {at next count x : ℕ} {large : Bool} {l l′ : List �
       counted = omega (arith, c .counted, a .counted);
       wide = e ∙ ap (λ (y : Bool). y || wide) (a .wide) ∙ ap (λ (y : Bool). leb (2 ^ signals) x || y) (c .wide);
       written = λ z.
-          let (p, q) = or-false large wide (sym e ∙ z) in
+          let (p, q) = either-false large wide (sym e ∙ z) in
           c .written q ∙ ap (λ (y : List ℕ). sets y count ys) (a .written p) ∙ ap (λ (i : ℕ). sets (set l 0 x) i ys) (a .counted ∙ omega arith);
     },
   )

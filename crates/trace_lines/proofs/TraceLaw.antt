@@ -1,6 +1,6 @@
 -- What each way out of the reader of a trace line gives, in terms of how traces are spelled. So no two traces are spelled alike.
 use mathlib.Core.Path.{_≡_, refl, ap, sym, _∙_}
-use mathlib.Core.Bool.{Bool, true, false, _||_}
+use mathlib.Core.Bool.{Bool, true, false, _||_, or-false}
 use mathlib.Core.Option.{none, some}
 use mathlib.Core.List.{List, [], _∷_, _++_, append-nil, append-cancel-left, head-eq-of-cons-eq, tail-eq-of-cons-eq}
 use Prim.Native.Nat.{ℕ, suc, _+_, _<_, _≤_}
@@ -10,21 +10,20 @@ use lib.ListN.{length, drop}
 use lib.Seq.{sets, drop-length}
 use lib.Dec.{leb}
 use Rattle.table.specs.Answer.{refused}
-use Rattle.text.specs.Text.{text}
-use Rattle.trace_lines.specs.Spelling.{Trace, traceLine, lineOfTrace}
-use Rattle.text.specs.Limits.{mostBytes}
-use Rattle.text.specs.Reading.{long, breaks, spells}
-use Rattle.trace_lines.specs.TraceAnswer.{largeLetter, traceLimits, traceRefusal, TraceAnswer}
-use Rattle.text.specs.Inner.Places.{byteAt, Stands, Agree, Language, Begins, Stops, StopsLine}
-use Rattle.trace_lines.specs.Inner.LettersReader.{further, listed, Any, Some, Spelled, LettersStand, finiteRest, lassoRest, wholeLine, ListsStand, ListsRead}
-use Rattle.trace_lines.specs.declared.Lists.{Lists}
-use Rattle.trace_lines.specs.declared.Lists.the-variants.{Found, FaultAt}
-use Rattle.trace_lines.specs.declared.TraceLine.the-variants.{Letters, Refused}
-use Rattle.text.proofs.ReadingLaw.{breaks-at, front-sets}
-use Rattle.text.proofs.StoreLaw.{or-false, or-false-right, and-false}
-use Rattle.text.proofs.PlaceLaw.{agree-self, agree-less, stands-one, stands-join, stops-here, halts-first, halts-after, stops-line, Nothing, stops-end}
-use Rattle.text.proofs.NumberLaw.{ending-unique}
-use Rattle.trace_lines.proofs.LettersLaw.{list-unique}
+use Rattle.table.proofs.CheckLaw.{either-false}
+use Rattle.lines.specs.Text.{text}
+use Rattle.lines.specs.Spelling.{Trace, traceLine, lineOfTrace}
+use Rattle.lines.specs.Limits.{mostBytes}
+use Rattle.lines.specs.Reading.{long, breaks, spells}
+use Rattle.lines.specs.TraceAnswer.{largeLetter, traceLimits, traceRefusal, TraceAnswer}
+use Rattle.lines.specs.Inner.Places.{byteAt, Stands, Agree, Language, Begins, Stops, StopsLine}
+use Rattle.lines.specs.Inner.LettersReader.{further, listed, Any, Some, Spelled, LettersStand, finiteRest, lassoRest, wholeLine, ListsStand, ListsRead}
+use Rattle.lines.specs.declared.traces.Lists.{Lists}
+use Rattle.lines.specs.declared.traces.TraceLine.the-variants.{Letters, Refused}
+use Rattle.lines.proofs.ReadingLaw.{breaks-at, front-sets}
+use Rattle.lines.proofs.StoreLaw.{and-false}
+use Rattle.lines.proofs.PlaceLaw.{agree-self, agree-less, stands-one, stands-join, stops-here, halts-first, halts-after, stops-line, Nothing, stops-end}
+use Rattle.lines.proofs.LettersLaw.{list-unique}
 
 abbrev Both : (List ℕ → List ℕ → Language) → Language
 Both F w = (lead : List ℕ) × (loop : List ℕ) × F lead loop w
@@ -58,7 +57,7 @@ module _ {s xs : List ℕ} {at next count : ℕ} {large : Bool} {l l′ : List �
     record {
       leads = omega (arith, a .counted);
       loops = refl;
-      wide = a .wide ∙ sym (or-false-right (largeLetter xs));
+      wide = a .wide ∙ sym (or-false (largeLetter xs));
       written = λ e. (a .written e, refl);
     },
   )
@@ -138,7 +137,7 @@ lasso-read {xs = xs} {large = large} a o (y ∷ ys) h {wide = wide} c e i z b u 
     leads = omega (arith, a .counted);
     loops = omega (arith, c .counted);
     wide = u ∙ ap (λ (x : Bool). x || wide) (a .wide) ∙ ap (λ (x : Bool). largeLetter xs || x) (c .wide);
-    written = λ n. let (p, q) = or-false large wide (sym u ∙ n) in (a .written p, c .written q);
+    written = λ n. let (p, q) = either-false large wide (sym u ∙ n) in (a .written p, c .written q);
   },
 )
 

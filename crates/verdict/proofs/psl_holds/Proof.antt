@@ -56,7 +56,7 @@ psl-holds-spec =
     let n = c .before .before in
     let a = start n .args in
     holds-none (table n) (a .lead .now) (a .cycle .now) (c .before .if1 .taken) (c .on-empty .ensures))
-    -- the formula's row, with nothing accepted or rejected yet
+    -- the formula's row, with falsum accepted or rejected yet
     (λ c. search needs)
     (λ c κs. search needs)
     (λ c κs. root (lettered (signals c)))
@@ -69,7 +69,7 @@ psl-holds-spec =
     let l = start n .args .lead .now in
     let m = start n .args .cycle .now in
     let w = few (s .before .before) in
-    let row = f .formula-row .ensures l m w refl (s .signal-rows .ensures) nothing nothing
+    let row = f .formula-row .ensures l m w refl (s .signal-rows .ensures) falsum falsum
     (record { accept = tells-false w; reject = tells-false w }) in
     holds-some t l m (c .at-first .result) w
-    (c .at-first .ensures l m (translated (formulaAt t (count t - 1)) nothing nothing) w refl row)))
+    (c .at-first .ensures l m (translated (formulaAt t (count t - 1)) falsum falsum) w refl row)))
