@@ -21,12 +21,13 @@ use Rattle.logic.specs.Formula.{Formula}
 use Rattle.psl.specs.Check.{pslRules, one as oneIf, names, namesAt, uses, useRefusal, pslRefusal, total}
 use Rattle.psl.proofs.SumLaw.{total-same}
 use Rattle.psl.proofs.CheckLaw.{root-fine, psl-then}
-use Rattle.lines.specs.Closing.{table}
-use Rattle.lines.specs.FormulaAnswer.{largeSignal}
-use Rattle.lines.specs.Inner.Form.{Form, truth, signal, one, two, shape, arity, leftSort, rightSort, kinds, elem, Sorted, closed, wide}
-use Rattle.lines.proofs.FormLaw.{boolean-kinds, formula-kinds}
-use Rattle.lines.proofs.FormulaLaw.{form, form-sorted, form-nodes}
-use Rattle.lines.proofs.LineLaw.{closed-large}
+use Rattle.formula_lines.specs.Closing.{table}
+use Rattle.formula_lines.specs.FormulaAnswer.{largeSignal}
+use Rattle.formula_lines.specs.Inner.Form.{Form, truth, signal, one, two, shape, arity, leftSort, rightSort, kinds, Sorted, closed, wide}
+use Rattle.text.specs.Inner.Words.{elem}
+use Rattle.formula_lines.proofs.FormLaw.{boolean-kinds, formula-kinds}
+use Rattle.formula_lines.proofs.FormulaLaw.{form, form-sorted, form-nodes}
+use Rattle.formula_lines.proofs.LineLaw.{closed-large}
 
 -- ── Uses ──
 

@@ -14,21 +14,22 @@ use Rattle.table.specs.Node.{Node, node, numbersOf, _▸_}
 use Rattle.table.proofs.NodeLaw.{length-numbers}
 use Rattle.logic.specs.Formula.{btrue, Formula, weak}
 use Rattle.table.specs.Answer.{refused}
-use Rattle.lines.specs.Text.{text}
-use Rattle.lines.specs.Spelling.{spell, formulaLine}
-use Rattle.lines.specs.Closing.{table}
-use Rattle.lines.specs.Limits.{mostBytes}
-use Rattle.lines.specs.Reading.{long, breaks, spells}
-use Rattle.lines.specs.FormulaAnswer.{largeSignal, formulaLimits, formulaRefusal, FormulaAnswer}
-use Rattle.lines.specs.Inner.Places.{byteAt, Stands, Agree, Begins, Stops, StopsLine}
-use Rattle.lines.specs.Inner.Form.{Form, truth, signal, one, two, arity, Sorted, bytes, closed, wide}
-use Rattle.lines.specs.Inner.Reader.{FormOf, filled, FormStands, WholeStands, WholeRead}
-use Rattle.lines.specs.declared.formula.Line.the-variants.{Nodes, Refused}
-use Rattle.lines.specs.declared.formula.Read.{Read}
-use Rattle.lines.proofs.PlaceLaw.{agree-self, stands-one, stands-join, stops-here, halts-first, begins-first, halts-after, stops-line, Nothing, stops-end}
-use Rattle.lines.proofs.ReadingLaw.{breaks-at, front-sets}
-use Rattle.lines.proofs.FormLaw.{var-arity}
-use Rattle.lines.proofs.FormulaLaw.{form, form-sorted, form-bytes, form-nodes, as-formula, spell-unique, line-unique, formula-injective}
+use Rattle.text.specs.Text.{text}
+use Rattle.formula_lines.specs.Spelling.{spell, formulaLine}
+use Rattle.formula_lines.specs.Closing.{table}
+use Rattle.text.specs.Limits.{mostBytes}
+use Rattle.text.specs.Reading.{long, breaks, spells}
+use Rattle.formula_lines.specs.FormulaAnswer.{largeSignal, formulaLimits, formulaRefusal, FormulaAnswer}
+use Rattle.text.specs.Inner.Places.{byteAt, Stands, Agree, Begins, Stops, StopsLine}
+use Rattle.formula_lines.specs.Inner.Form.{Form, truth, signal, one, two, arity, Sorted, bytes, closed, wide}
+use Rattle.formula_lines.specs.Inner.Reader.{FormOf, filled, FormStands, SpellsFormula, WholeStands, WholeRead}
+use Rattle.formula_lines.specs.declared.FormulaLine.the-variants.{Nodes, Refused}
+use Rattle.formula_lines.specs.declared.Read.{Read}
+use Rattle.formula_lines.specs.declared.Read.the-variants.{Found, FaultAt}
+use Rattle.text.proofs.PlaceLaw.{agree-self, stands-one, stands-join, stops-here, halts-first, begins-first, halts-after, stops-line, Nothing, stops-end}
+use Rattle.text.proofs.ReadingLaw.{breaks-at, front-sets}
+use Rattle.formula_lines.proofs.FormLaw.{var-arity}
+use Rattle.formula_lines.proofs.FormulaLaw.{form, form-sorted, form-bytes, form-nodes, as-formula, spell-unique, line-unique, formula-injective}
 
 -- ── Signals ──
 

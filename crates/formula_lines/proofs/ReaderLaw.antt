@@ -12,18 +12,19 @@ use lib.Dec.{T, leb}
 use Rattle.logic.specs.Letter.{signals}
 use Rattle.table.specs.Node.{Node, node, numbersOf, _▸_, last}
 use Rattle.table.proofs.NodeLaw.{length-numbers, length-more}
+use Rattle.text.specs.Text.{text}
+use Rattle.text.specs.Spelling.{digits}
+use Rattle.text.specs.Inner.Places.{byteAt, Stands, Agree, Language, Begins, Halts, Stops}
+use Rattle.text.specs.Inner.Number.{Numeral, Numbered}
+use Rattle.text.specs.Inner.Scan.{NumberStands}
+use Rattle.formula_lines.specs.Inner.Form.{Form, truth, signal, one, two, keyword, arity, leftSort, rightSort, kinds, Sorted, OfKind, bytes, inner, closed, wide}
+use Rattle.text.specs.Inner.Words.{elem}
+use Rattle.formula_lines.specs.Inner.Reader.{KeywordOf, InBrackets, FormOf, OperandsOf, filled, FormStands, Ended, OperandsStand}
+use Rattle.text.proofs.PlaceLaw.{agree-byte, byte-drop, stands-one, stands-join, stops-here, halts-first, begins-first, halts-after}
+use Rattle.text.proofs.ScanLaw.{no-digit-agree}
+use Rattle.text.proofs.StoreLaw.{sets-sets}
+use Rattle.formula_lines.proofs.FormLaw.{View, view, kind-fact, kind-sorted, kind-bytes, none-of, one-of, two-of, form-unique, operands-unique, sample, sample-sorted, sample-open, kind-sample, open-bytes, word-kind, var-arity}
 use Rattle.table.proofs.CheckLaw.{either-false}
-use Rattle.lines.specs.Text.{text}
-use Rattle.lines.specs.Spelling.{digits}
-use Rattle.lines.specs.Inner.Places.{byteAt, Stands, Agree, Language, Begins, Halts, Stops}
-use Rattle.lines.specs.Inner.Number.{Numeral, Numbered}
-use Rattle.lines.specs.Inner.Scan.{NumberStands}
-use Rattle.lines.specs.Inner.Form.{Form, truth, signal, one, two, arity, leftSort, rightSort, kinds, elem, Sorted, OfKind, bytes, inner, closed, wide}
-use Rattle.lines.specs.Inner.Reader.{FormOf, OperandsOf, filled, FormStands, Ended, OperandsStand}
-use Rattle.lines.proofs.PlaceLaw.{agree-byte, byte-drop, stands-one, stands-join, stops-here, halts-first, begins-first, halts-after}
-use Rattle.lines.proofs.ScanLaw.{no-digit-agree}
-use Rattle.lines.proofs.StoreLaw.{sets-sets}
-use Rattle.lines.proofs.FormLaw.{View, view, kind-fact, kind-sorted, kind-bytes, none-of, one-of, two-of, form-unique, operands-unique, sample, sample-sorted, sample-open, kind-sample, open-bytes, word-kind, var-arity}
 
 -- ── The lent list ──
 

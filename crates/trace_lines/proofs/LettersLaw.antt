@@ -9,18 +9,19 @@ use lib.ListN.{length, drop, set, length-append}
 use lib.Seq.{sets}
 use lib.Dec.{leb}
 use Rattle.logic.specs.Letter.{signals}
+use Rattle.text.specs.Spelling.{digits}
+use Rattle.text.specs.Inner.Places.{byteAt, Stands, Agree, Language, Begins, Halts, Stops}
+use Rattle.text.specs.Inner.Number.{Numeral, Numbered}
+use Rattle.text.specs.Inner.Scan.{NumberStands}
+use Rattle.trace_lines.specs.TraceAnswer.{largeLetter}
+use Rattle.trace_lines.specs.Inner.LettersReader.{LetterStands, further, listed, Any, Some, Spelled, LettersStand, LettersRead}
+use Rattle.trace_lines.specs.declared.Letters.{Letters}
+use Rattle.trace_lines.specs.declared.Letters.the-variants.{Found, FaultAt}
+use Rattle.text.proofs.PlaceLaw.{agree-byte, byte-drop, stands-one, stands-join, halts-first, halts-after}
+use Rattle.text.proofs.NumberLaw.{digits-unique, digits-first, ending-no-digit, ending-unique}
+use Rattle.text.proofs.ScanLaw.{no-digit-agree}
+use Rattle.text.proofs.StoreLaw.{sets-sets}
 use Rattle.table.proofs.CheckLaw.{either-false}
-use Rattle.lines.specs.Spelling.{digits}
-use Rattle.lines.specs.Inner.Places.{byteAt, Stands, Agree, Language, Begins, Halts, Stops}
-use Rattle.lines.specs.Inner.Number.{Numeral, Numbered}
-use Rattle.lines.specs.Inner.Scan.{NumberStands}
-use Rattle.lines.specs.TraceAnswer.{largeLetter}
-use Rattle.lines.specs.Inner.LettersReader.{LetterStands, further, listed, Any, Some, Spelled, LettersStand, LettersRead}
-use Rattle.lines.specs.declared.traces.Letters.{Letters}
-use Rattle.lines.proofs.PlaceLaw.{agree-byte, byte-drop, stands-one, stands-join, halts-first, halts-after}
-use Rattle.lines.proofs.NumberLaw.{digits-unique, digits-first}
-use Rattle.lines.proofs.ScanLaw.{no-digit-agree}
-use Rattle.lines.proofs.StoreLaw.{sets-sets}
 
 abbrev Further : Language
 Further = Spelled further Any

@@ -10,20 +10,22 @@ use lib.ListN.{length, drop}
 use lib.Seq.{sets, drop-length}
 use lib.Dec.{leb}
 use Rattle.table.specs.Answer.{refused}
+use Rattle.text.specs.Text.{text}
+use Rattle.trace_lines.specs.Spelling.{Trace, traceLine, lineOfTrace}
+use Rattle.text.specs.Limits.{mostBytes}
+use Rattle.text.specs.Reading.{long, breaks, spells}
+use Rattle.trace_lines.specs.TraceAnswer.{largeLetter, traceLimits, traceRefusal, TraceAnswer}
+use Rattle.text.specs.Inner.Places.{byteAt, Stands, Agree, Language, Begins, Stops, StopsLine}
+use Rattle.trace_lines.specs.Inner.LettersReader.{further, listed, Any, Some, Spelled, LettersStand, finiteRest, lassoRest, wholeLine, ListsStand, ListsRead}
+use Rattle.trace_lines.specs.declared.Lists.{Lists}
+use Rattle.trace_lines.specs.declared.Lists.the-variants.{Found, FaultAt}
+use Rattle.trace_lines.specs.declared.TraceLine.the-variants.{Letters, Refused}
+use Rattle.text.proofs.ReadingLaw.{breaks-at, front-sets}
+use Rattle.text.proofs.StoreLaw.{and-false}
+use Rattle.text.proofs.PlaceLaw.{agree-self, agree-less, stands-one, stands-join, stops-here, halts-first, halts-after, stops-line, Nothing, stops-end}
+use Rattle.text.proofs.NumberLaw.{ending-unique}
+use Rattle.trace_lines.proofs.LettersLaw.{list-unique}
 use Rattle.table.proofs.CheckLaw.{either-false}
-use Rattle.lines.specs.Text.{text}
-use Rattle.lines.specs.Spelling.{Trace, traceLine, lineOfTrace}
-use Rattle.lines.specs.Limits.{mostBytes}
-use Rattle.lines.specs.Reading.{long, breaks, spells}
-use Rattle.lines.specs.TraceAnswer.{largeLetter, traceLimits, traceRefusal, TraceAnswer}
-use Rattle.lines.specs.Inner.Places.{byteAt, Stands, Agree, Language, Begins, Stops, StopsLine}
-use Rattle.lines.specs.Inner.LettersReader.{further, listed, Any, Some, Spelled, LettersStand, finiteRest, lassoRest, wholeLine, ListsStand, ListsRead}
-use Rattle.lines.specs.declared.traces.Lists.{Lists}
-use Rattle.lines.specs.declared.traces.TraceLine.the-variants.{Letters, Refused}
-use Rattle.lines.proofs.ReadingLaw.{breaks-at, front-sets}
-use Rattle.lines.proofs.StoreLaw.{and-false}
-use Rattle.lines.proofs.PlaceLaw.{agree-self, agree-less, stands-one, stands-join, stops-here, halts-first, halts-after, stops-line, Nothing, stops-end}
-use Rattle.lines.proofs.LettersLaw.{list-unique}
 
 abbrev Both : (List ℕ → List ℕ → Language) → Language
 Both F w = (lead : List ℕ) × (loop : List ℕ) × F lead loop w

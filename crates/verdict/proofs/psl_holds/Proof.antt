@@ -9,7 +9,7 @@ use Rattle.table.specs.Node.{count, kindAt}
 use Rattle.psl.specs.Parts.{formulaAt}
 use Rattle.psl.specs.Check.{pslRefusal}
 use Rattle.psl.proofs.AcceptedLaw.{some-node, most-nodes, root-formula}
-use Rattle.logic.specs.Translation.{translated}
+use Rattle.logic.specs.Translation.{translated, falsum}
 use Rattle.rows.specs.Rows.{Few}
 use Rattle.rows.proofs.RowLaw.{tells-false}
 use Rattle.verdict.proofs.HoldsLaw.{holds-none, holds-some}
@@ -56,7 +56,7 @@ psl-holds-spec =
     let n = c .before .before in
     let a = start n .args in
     holds-none (table n) (a .lead .now) (a .cycle .now) (c .before .if1 .taken) (c .on-empty .ensures))
-    -- the formula's row, with falsum accepted or rejected yet
+    -- the formula's row, with nothing accepted or rejected yet
     (λ c. search needs)
     (λ c κs. search needs)
     (λ c κs. root (lettered (signals c)))
