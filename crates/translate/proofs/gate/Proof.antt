@@ -1,3 +1,4 @@
+-- `translate::gate` meets its contract: its three nodes, one after the other.
 use borrow.Author.Needs.{needs}
 use Rattle.translate.proofs.StoredLaw.{walks-gate}
 use Rattle.translate.proofs.gate.Statement.{statement}

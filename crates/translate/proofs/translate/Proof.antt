@@ -30,31 +30,48 @@ accepts e = e .before .before
 fine : (e : tie.After-enum-told) → pslRefusal (table (accepts e)) ≡ none
 fine e = let c = accepts e in accepted (pslRefusal (table c)) (c .check-psl .result) (c .check-psl .ensures) (e .enum-told .given .1)
 
-pub translate-spec : {M : Type 1} → statement M
-translate-spec =
-    tie.close (tie.spec
-    -- the check, the size
-    (λ c κs. search needs)
-    (λ c. search needs)
-    (λ c. search needs)
-    (λ c κs. fine c)
-    (λ c. let e = c .before in omega (arith, c .emitted-size .ensures, size-most (table (accepts e)) (fine e)))
-    -- no room
-    (λ c.
+emitted-size-requires : tie.Need-emitted-size-requires
+emitted-size-requires c κs = fine c
+
+mul-if1 : tie.Need-mul-if1
+mul-if1 c = let e = c .before in omega (arith, c .emitted-size .ensures, size-most (table (accepts e)) (fine e))
+
+returns : tie.Need-returns
+returns c =
     let z = c .before in
     let e = z .before in
-    refused-room (table (accepts e)) (lent (accepts e)) (fine e) (omega (arith, z .emitted-size .ensures, c .if1 .taken)))
-    (λ c κs. let z = c .before .before in (fine (z .before), omega (arith, z .emitted-size .ensures, c .before .if1 .left)))
-    -- a refused table
-    (λ c.
+    refused-room (table (accepts e)) (lent (accepts e)) (fine e) (omega (arith, z .emitted-size .ensures, c .if1 .taken))
+
+emit-requires : tie.Need-emit-requires
+emit-requires c κs =
+    let r = c .before in
+    let z = r .before in
+    (fine (z .before), omega (arith, z .emitted-size .ensures, r .if1 .left))
+
+returns-2 : tie.Need-returns-2
+returns-2 c =
     let x = c .before in
     let k = refuses x in
-    refused-check (table k) (lent k) (was-refused (pslRefusal (table k)) (k .check-psl .result) _ (k .check-psl .ensures) (x .x .given .1)))
-    -- the table in front
-    (λ c. search needs)
-    (λ c.
+    refused-check (table k) (lent k) (was-refused (pslRefusal (table k)) (k .check-psl .result) _ (k .check-psl .ensures) (x .x .given .1))
+
+returns-3 : tie.Need-returns-3
+returns-3 c =
     let m = c .before .before in
     let r = m .before .before in
     let z = r .before in
     let e = z .before in
-    delivered (table (accepts e)) (lent (accepts e)) (fine e) (z .emitted-size .ensures) (omega (arith, r .if1 .left)) (m .emit .ensures)))
+    delivered (table (accepts e)) (lent (accepts e)) (fine e) (z .emitted-size .ensures) (omega (arith, r .if1 .left)) (m .emit .ensures)
+
+pub translate-spec : {M : Type 1} → statement M
+translate-spec =
+    tie.close (tie.spec
+    (λ c κs. search needs)
+    (λ c. search needs)
+    (λ c. search needs)
+    emitted-size-requires
+    mul-if1
+    returns
+    emit-requires
+    returns-2
+    (λ c. search needs)
+    returns-3)

@@ -7,7 +7,7 @@ use Prim.Native.Nat.{ℕ, _+_, _-_, _≤_, _<_}
 use lib.ListN.{length, getD, set, length-set}
 use Rattle.logic.specs.Letter.{signals}
 use Rattle.table.specs.Node.{count, kindAt, leftAt, rightAt}
-use Rattle.ltl.proofs.AcceptedLaw.{is-var, both-below, operands-below}
+use Rattle.ltl.proofs.AcceptedLaw.{is-var, operands-below}
 use Rattle.logic.specs.Tree.{lvar}
 use Rattle.rows.specs.Rows.{Tells, TellsNode, Known}
 use Rattle.rows.proofs.SignalLaw.{known-none}
@@ -79,7 +79,7 @@ one-more u v N =
     let I = L .loop .inv in
     let P = start L .pre in
     let h = inside u in
-    told-more i v h (omega (arith, h, I .2, P .2)) (both-below t (P .0) i h) N (I .4)
+    told-more i v (P .0) h (omega (arith, h, I .2, P .2)) N (I .4)
 
 -- After a turn node i has its row, its signal's or its operands'.
 filled : (c : tie.Joined1 Inv-loop μ-loop)
