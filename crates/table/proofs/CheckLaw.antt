@@ -102,6 +102,9 @@ fit-below {R} {u} {n} {i} {b} f = go u (f .low)
     go signal h e = absurd (not-both true refl (sym e))
     go (operand c) h e = h
 
+pub fit-unused : {R : Rules} {u : Use} {n i : ℕ} {b : Bool} → Fits R u n i b → u ≡ unused → n ≡ 0
+fit-unused {R} {u} {n} {i} f e = let h : n < 1 = subst (λ (v : Use). n < bound v i) e (f .low) in omega arith
+
 -- The sort matters of an operand alone.
 pub fits-same : {R : Rules} {u : Use} {n i : ℕ} {b c : Bool} → Fits R u n i b → (isOperand u ≡ true → c ≡ b) → Fits R u n i c
 fits-same {R} {u} {n} {i} {b} {c} f e = record { low = f .low; sort = go (R .sorts) u (f .sort) e }

@@ -8,7 +8,7 @@ use lib.ListN.{length, getD, set, length-set}
 use Rattle.trace.specs.Letter.{signals}
 use Rattle.table.specs.Node.{nodesOf, count, kindAt, leftAt, rightAt}
 use Rattle.table.proofs.NodeLaw.{length-nodes, node-at}
-use Rattle.ltl.proofs.AcceptedLaw.{some-node, is-var, both-below, operands-below}
+use Rattle.ltl.proofs.AcceptedLaw.{some-node, is-var, left-below, right-below, operands-below}
 use Rattle.ltl.specs.Tree.{lvar}
 use Rattle.ltl.specs.Table.{treeOf}
 use Rattle.rows.specs.Rows.{Tells, TellsNode, Known}
@@ -144,7 +144,7 @@ one-more u v N =
     let I = L .loop .inv in
     let P = start L .pre in
     let h = inside u in
-    told-more i (kindAt t i) (leftAt t i) (rightAt t i) v (omega (arith, length-nodes t, h)) (omega (arith, h, I .2, P .2)) (node-at t i (omega arith)) (both-below t (P .0) i h) N (I .4)
+    told-more i (kindAt t i) (leftAt t i) (rightAt t i) v (omega (arith, length-nodes t, h)) (omega (arith, h, I .2, P .2)) (node-at t i (omega arith)) (left-below t (P .0) i h) (right-below t (P .0) i h) N (I .4)
 
 -- After a turn node i has its row, its signal's or its operands'.
 filled : (c : tie.Joined1 Inv-loop μ-loop)
