@@ -1,9 +1,11 @@
 -- What the LTL check refuses.
+use mathlib.Core.Path.{_≡_}
+use mathlib.Core.Bool.{true}
 use mathlib.Core.Option.{Option, none}
 use mathlib.Core.List.{List, [], _∷_}
 use Prim.Native.Nat.{ℕ}
 use Rattle.trace.specs.declared.Refusal.{Refusal}
-use Rattle.table.specs.Check.{unused, signal, formula, Rules, tableRefusal}
+use Rattle.table.specs.Check.{unused, signal, formula, isOperand, Rules, shapeOf, tableRefusal}
 
 -- What stands left and right, kind by kind. All are formulas, so that no operand is of the wrong sort.
 abbrev pub ltlRules : Rules
@@ -22,6 +24,13 @@ ltlRules =
       numbers = record { length = 11; kind = 12; unused = 13; signal = 14; operand = 15 };
       sorts = none;
     }
+
+-- A kind that has an operand left, and one that has one right.
+abbrev pub LeftOperand : ℕ → Type 0
+LeftOperand k = isOperand (shapeOf ltlRules k .0) ≡ true
+
+abbrev pub RightOperand : ℕ → Type 0
+RightOperand k = isOperand (shapeOf ltlRules k .1) ≡ true
 
 abbrev pub ltlRefusal : List ℕ → Option Refusal
 ltlRefusal t = tableRefusal ltlRules t

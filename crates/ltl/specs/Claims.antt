@@ -7,7 +7,8 @@ use lib.ListN.{length}
 use Rattle.logic.specs.Letter.{signals}
 use Rattle.table.specs.declared.Checked.{Checked}
 use Rattle.table.specs.Node.{count, kindAt, leftAt, rightAt}
-use Rattle.ltl.specs.Check.{ltlRefusal}
+use Rattle.table.specs.Check.{unused, shapeOf}
+use Rattle.ltl.specs.Check.{ltlRules, LeftOperand, RightOperand, ltlRefusal}
 use Rattle.ltl.specs.Answer.{LtlChecks}
 
 pub record Claims : Type 0 where
@@ -17,5 +18,9 @@ pub record Claims : Type 0 where
   pub sized : (t : List ℕ) → ltlRefusal t ≡ none → (length t ≡ 3 * count t) × (1 ≤ count t) × (count t ≤ 4096)
   -- Each var names a signal.
   pub signal : (t : List ℕ) → ltlRefusal t ≡ none → (i : ℕ) → i < count t → kindAt t i ≡ 1 → leftAt t i < signals
-  -- From kind 2, not, on both numbers of a node are below its own: operands come before their user, and an unused place holds 0.
-  pub before : (t : List ℕ) → ltlRefusal t ≡ none → (i : ℕ) → i < count t → 2 ≤ kindAt t i → (leftAt t i < i) × (rightAt t i < i)
+  -- An operand comes before its user.
+  pub before : (t : List ℕ) → ltlRefusal t ≡ none → (i : ℕ) → i < count t
+      → (LeftOperand (kindAt t i) → leftAt t i < i) × (RightOperand (kindAt t i) → rightAt t i < i)
+  -- An unused place holds 0.
+  pub blank : (t : List ℕ) → ltlRefusal t ≡ none → (i : ℕ) → i < count t
+      → (shapeOf ltlRules (kindAt t i) .0 ≡ unused → leftAt t i ≡ 0) × (shapeOf ltlRules (kindAt t i) .1 ≡ unused → rightAt t i ≡ 0)

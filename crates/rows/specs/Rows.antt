@@ -13,6 +13,7 @@ use Rattle.table.specs.Node.{node, count}
 use Rattle.logic.specs.Tree.{Ltl, lvar}
 use Rattle.logic.specs.LtlMeaning.{LtlHolds}
 use Rattle.ltl.specs.Table.{treeOfNode, treeAt}
+use Rattle.ltl.specs.Check.{LeftOperand, RightOperand}
 
 -- The place of moment m: how many letters of both lists stand after its letter. Past the lead-in it goes round the loop.
 unfoldable pub place : List ℕ → List ℕ → ℕ → ℕ
@@ -46,10 +47,10 @@ pub record Swept (f g : ℕ) (carry : Bool) (r : ℕ) : Type 0 where
   pub last : bit r 0 ≡ bit g 0 || bit f 0 && carry
   pub before : (m : ℕ) → suc m < mostLetters → bit r (suc m) ≡ bit g (suc m) || bit f (suc m) && bit r m
 
--- Row w tells a node of kind k and left place l, whatever trees rows a and b tell of its operands: a kind from 2 on has them.
+-- Row w tells a node of kind k and left place l, whatever trees rows a and b tell of its operands, where the kind has such.
 abbrev pub TellsNode : List ℕ → List ℕ → ℕ → ℕ → ℕ → ℕ → ℕ → Type 0
 TellsNode lead loop k l a b w =
-    (x : ℕ → Ltl) (r : ℕ) → (2 ≤ k → Tells lead loop a (x l)) → (2 ≤ k → Tells lead loop b (x r)) → Tells lead loop w (treeOfNode x (node k l r))
+    (x : ℕ → Ltl) (r : ℕ) → (LeftOperand k → Tells lead loop a (x l)) → (RightOperand k → Tells lead loop b (x r)) → Tells lead loop w (treeOfNode x (node k l r))
 
 -- Word i of a list is the row of node i, for each node of LTL table t.
 pub record RowsOf (lead loop t rows : List ℕ) : Type 0 where

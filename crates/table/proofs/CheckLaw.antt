@@ -3,7 +3,7 @@ use mathlib.Core.Path.{_≡_, refl, sym, ap, _∙_, subst}
 use mathlib.Core.Bool.{Bool, true, false, _&&_, _||_, Bool·beq}
 use mathlib.Core.Option.{Option, none, some}
 use mathlib.Core.List.{List}
-use Prim.Native.Nat.{ℕ, zero, suc, _+_, _*_, _/_, _%_, _≤_, _<_}
+use Prim.Native.Nat.{ℕ, zero, suc, _+_, _/_, _%_, _≤_, _<_}
 use native.Mathlib.Omega.{arith}
 use native.Mathlib.Numerals.{add-one}
 use native.Mathlib.Decide.{decLt}
@@ -102,6 +102,9 @@ fit-below {R} {u} {n} {i} {b} f = go u (f .low)
     go signal h e = absurd (not-both true refl (sym e))
     go (operand c) h e = h
 
+pub fit-unused : {R : Rules} {u : Use} {n i : ℕ} {b : Bool} → Fits R u n i b → u ≡ unused → n ≡ 0
+fit-unused {R} {u} {n} {i} f e = let h : n < 1 = subst (λ (v : Use). n < bound v i) e (f .low) in omega arith
+
 -- The sort matters of an operand alone.
 pub fits-same : {R : Rules} {u : Use} {n i : ℕ} {b c : Bool} → Fits R u n i b → (isOperand u ≡ true → c ≡ b) → Fits R u n i c
 fits-same {R} {u} {n} {i} {b} {c} f e = record { low = f .low; sort = go (R .sorts) u (f .sort) e }
@@ -124,7 +127,7 @@ sorts-fit (some s) h lb rb e =
     both-true (sortFits (h .0) lb) (sortFits (h .1) rb) (unless-none (sortFits (h .0) lb && sortFits (h .1) rb) _ none e .0)
 
 module _ (R : Rules) (h : Use × Use) (i l r : ℕ) (lb rb : Bool) where
-  pub places-none : Fits R (h .0) l i lb → Fits R (h .1) r i rb → placesRefusal R h i l r lb rb ≡ none
+  places-none : Fits R (h .0) l i lb → Fits R (h .1) r i rb → placesRefusal R h i l r lb rb ≡ none
   unfolding placesRefusal
   places-none f g =
       rw (
@@ -290,6 +293,3 @@ module _ (R : Rules) (t : List ℕ) where
 
       pub right-fits : (k : ℕ) → kindAt t i ≡ k → Fits R (shapeOf R k .1) (rightAt t i) i (isBoolean R t (rightAt t i))
       right-fits k q = subst (λ (m : ℕ). Fits R (shapeOf R m .1) (rightAt t i) i (isBoolean R t (rightAt t i))) q (table-sound i h .right)
-
-      pub node-in : 3 * (i + 1) ≤ length t
-      node-in = omega arith

@@ -41,7 +41,7 @@ module _ (R : Rules) where
     pub at : (i : ℕ) → a ≤ i → i < length ns → Passes ns i (nodeOf ns i)
 
   -- A node still passes where the nodes before it are the same.
-  pub passes-kept : (ms ps : List Node) → ((i : ℕ) → i < length ms → nodeOf ps i ≡ nodeOf ms i)
+  passes-kept : (ms ps : List Node) → ((i : ℕ) → i < length ms → nodeOf ps i ≡ nodeOf ms i)
       → (i : ℕ) (n : Node) → i ≤ length ms → Passes ms i n → Passes ps i n
   passes-kept ms ps e i (node k l r) h (a, f, g) = (
     a,

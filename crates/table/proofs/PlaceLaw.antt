@@ -107,7 +107,7 @@ module _ {C : CodeRules} {R : Rules} (c : Codes C R) where
   booleans-coded : C .booleans ≡ booleans (R .sorts)
   booleans-coded = ap (λ (D : CodeRules). D .booleans) (c .is)
 
-  pub kind-room : (k : ℕ) → k < length (R .kinds) → k < mostKinds
+  kind-room : (k : ℕ) → k < length (R .kinds) → k < mostKinds
   kind-room k h = omega (arith, c .room)
 
   -- The shape of a kind.
@@ -116,7 +116,7 @@ module _ {C : CodeRules} {R : Rules} (c : Codes C R) where
       ap (λ (D : CodeRules). getD (D .shapes) k noShape) (c .is) ∙ shapes-at mostKinds (R .kinds) k h (kind-room k h)
 
   -- The code also tests that there is room for the kind.
-  pub known-coded : (k : ℕ) → ltb k (C .kinds) && ltb k mostKinds ≡ known R k
+  known-coded : (k : ℕ) → ltb k (C .kinds) && ltb k mostKinds ≡ known R k
   known-coded k =
       rw kinds-coded
       (elim (decLt k (length (R .kinds))) [

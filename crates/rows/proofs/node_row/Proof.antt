@@ -1,11 +1,12 @@
 -- Kind by kind, each by its function's contract.
 use borrow.Author.Needs.{needs}
-use mathlib.Core.Path.{_≡_, refl}
+use mathlib.Core.Path.{_≡_, refl, sym, subst}
 use Prim.Native.Nat.{ℕ, zero, suc, _<_}
 use native.Mathlib.Omega.{arith}
 use Rattle.table.specs.Node.{node}
 use Rattle.logic.specs.Tree.{Ltl, ltrue}
 use Rattle.ltl.specs.Table.{treeOfNode}
+use Rattle.ltl.specs.Check.{LeftOperand, RightOperand}
 use Rattle.rows.proofs.RowLaw.{tells-true}
 use Rattle.rows.proofs.node_row.Statement.{statement}
 use Rattle.rows.proofs.node_row.Tie as tie
@@ -39,12 +40,15 @@ until-row-requires c κs = search needs
 
 returns-3 : tie.Need-returns-3
 unfolding treeOfNode
-returns-3 c lead loop l few e n x r A B = rw (c .before .match .keys1) (c .next-row .ensures lead loop (x l) few e (A (omega arith)))
+returns-3 c lead loop l few e n x r A B =
+    let k = c .before .match .keys1 in
+    rw k (c .next-row .ensures lead loop (x l) few e (A (subst LeftOperand (sym k) refl)))
 
 returns-4 : tie.Need-returns-4
 unfolding treeOfNode
 returns-4 c lead loop l few e n x r A B =
-    rw (c .before .match .keys2) (c .until-row .ensures lead loop (x l) (x r) few e (A (omega arith)) (B (omega arith)))
+    let k = c .before .match .keys2 in
+    rw k (c .until-row .ensures lead loop (x l) (x r) few e (A (subst LeftOperand (sym k) refl)) (B (subst RightOperand (sym k) refl)))
 
 returns-5 : tie.Need-returns-5
 returns-5 c lead loop l few e n x r A B = rw (no-kind x (c .before .before .before .args .k) l r (λ h. omega arith)) (tells-true few)

@@ -96,7 +96,7 @@ abbrev pub Numbered : Option Sorts → Type 0
 Numbered none = Unit {0}
 Numbered (some s) = s .number ≡ 0 → ⊥
 
--- C are the rules R as the code holds them: there is room for all kinds.
+-- C are the rules R as the code holds them. There is room for all kinds.
 pub record Codes (C : CodeRules) (R : Rules) : Type 0 where
   pub is : C ≡ codedRules R
   pub room : length (R .kinds) ≤ mostKinds
