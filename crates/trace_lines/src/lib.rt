@@ -1,10 +1,10 @@
 // Trace lines: `(finite N N)` or `(lasso (N N) (N N))`.
+use text::numbers::Number;
+use text::numbers::read_number;
 use text::scan;
-use text::scan::Number;
 use text::scan::byte;
 use text::scan::either;
 use text::scan::match_word;
-use text::scan::read_number;
 use trace::Letter;
 use trace::Refusal;
 ghost use mathlib.Core.Path.{_≡_};
