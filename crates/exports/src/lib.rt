@@ -21,6 +21,7 @@ ghost use Rattle.trace_lines.specs.TraceAnswer.{TraceAnswer};
 ghost use Rattle.node_lines.specs.NodeAnswer.{nodeAnswer, nodeList};
 ghost use Rattle.exports.specs.Coded.{foundCode, checkedCode, translationCode, verdictCode, formulaCode, traceCode, nodeCode};
 use formula_lines::FormulaLine;
+use logic::Letter;
 use node_lines::NodeLine;
 use table::Checked;
 use table::NodeNo;

@@ -1,11 +1,11 @@
 // Formula lines: nested brackets, read by two functions that call each other.
 use logic::SIGNALS;
+use text::numbers::Number;
+use text::numbers::read_number;
 use text::scan;
-use text::scan::Number;
 use text::scan::byte;
 use text::scan::either;
 use text::scan::match_word;
-use text::scan::read_number;
 use trace::Refusal;
 ghost use mathlib.Core.Path.{_≡_};
 ghost use Prim.Native.Nat.{ℕ, _+_, _*_, _<_, _≤_};

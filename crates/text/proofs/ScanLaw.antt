@@ -13,7 +13,7 @@ use Rattle.text.specs.Spelling.{digits}
 use Rattle.text.specs.Inner.Places.{byteAt, Stands, Agree, Halts}
 use Rattle.text.specs.Inner.Number.{IsDigit, NoDigit, Numeral, Numbered}
 use Rattle.text.specs.Inner.Scan.{Counts, NumberStands, NumberRead, WordRead}
-use Rattle.text.specs.declared.scan.Number.the-variants.{Small, Large}
+use Rattle.text.specs.declared.numbers.Number.the-variants.{Small, Large}
 use Rattle.text.proofs.PlaceLaw.{agree-byte, agree-less, byte-drop, drop-byte, stands-one, stands-join, stands-same}
 use Rattle.text.proofs.NumberLaw.{digits-small, digits-more, digits-first}
 

@@ -1,11 +1,11 @@
 // Trace lines: `(finite N N)` or `(lasso (N N) (N N))`.
 use logic::Letter;
+use text::numbers::Number;
+use text::numbers::read_number;
 use text::scan;
-use text::scan::Number;
 use text::scan::byte;
 use text::scan::either;
 use text::scan::match_word;
-use text::scan::read_number;
 use trace::Refusal;
 ghost use mathlib.Core.Path.{_≡_};
 ghost use mathlib.Core.List.{List};

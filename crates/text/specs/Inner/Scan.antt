@@ -7,8 +7,8 @@ use lib.ListN.{length, drop}
 use Rattle.text.specs.Spelling.{digits}
 use Rattle.text.specs.Inner.Places.{Stands, Halts, Stops}
 use Rattle.text.specs.Inner.Number.{NoDigit, Numeral, Numbered}
-use Rattle.text.specs.declared.scan.Number.{Number}
-use Rattle.text.specs.declared.scan.Number.the-variants.{Small, Large, FaultAt}
+use Rattle.text.specs.declared.numbers.Number.{Number}
+use Rattle.text.specs.declared.numbers.Number.the-variants.{Small, Large, FaultAt}
 
 -- A digit, or 10 where there is none.
 pub record DigitRead (s : List ℕ) (at r : ℕ) : Type 0 where

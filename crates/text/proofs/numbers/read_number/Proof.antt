@@ -8,8 +8,8 @@ use lib.ListN.{length}
 use Rattle.text.specs.Inner.Places.{Stands}
 use Rattle.text.specs.Inner.Scan.{Counts}
 use Rattle.text.proofs.ScanLaw.{number-none, number-zeros, number-zero, SoFar, so-far-one, so-far-more, number-small, number-large}
-use Rattle.text.proofs.scan.read_number.Statement.{statement}
-use Rattle.text.proofs.scan.read_number.Tie as tie
+use Rattle.text.proofs.numbers.read_number.Statement.{statement}
+use Rattle.text.proofs.numbers.read_number.Tie as tie
 
 abbrev Inv-loop : tie.InvT-loop
 Inv-loop s at limit first c₀ i₀ c i = (n : ℕ) × SoFar s at n i × Counts limit n (c .value) (c .large)

@@ -2,8 +2,8 @@
 use borrow.Author.Needs.{needs}
 use native.Mathlib.Omega.{arith}
 use Rattle.text.proofs.ScanLaw.{no-digit, the-digit}
-use Rattle.text.proofs.scan.digit.Statement.{statement}
-use Rattle.text.proofs.scan.digit.Tie as tie
+use Rattle.text.proofs.numbers.digit.Statement.{statement}
+use Rattle.text.proofs.numbers.digit.Tie as tie
 
 byte-requires : tie.Need-byte-requires
 byte-requires c κs = search needs

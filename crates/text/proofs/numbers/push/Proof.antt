@@ -2,8 +2,8 @@
 use borrow.Author.Needs.{needs}
 use native.Mathlib.Omega.{arith}
 use Rattle.text.proofs.ScanLaw.{counts-stay, counts-over, counts-fits}
-use Rattle.text.proofs.scan.push.Statement.{statement}
-use Rattle.text.proofs.scan.push.Tie as tie
+use Rattle.text.proofs.numbers.push.Statement.{statement}
+use Rattle.text.proofs.numbers.push.Tie as tie
 
 returns : tie.Need-returns
 returns c = λ n h. counts-stay _ n _ _ _ (c .if1 .taken) h
