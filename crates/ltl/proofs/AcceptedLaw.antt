@@ -15,7 +15,7 @@ module _ (t : List ℕ) (fine : ltlRefusal t ≡ none) where
   pub some-node : 0 < count t
   some-node = table-sized ltlRules t fine .some
 
-  pub most-nodes : count t ≤ 4096
+  pub most-nodes : count t ≤ ltlRules .most
   most-nodes = table-sized ltlRules t fine .low
 
   module _ (i : ℕ) (inside : i < count t) where

@@ -15,7 +15,7 @@ pub record Claims : Type 0 where
   -- The check has one answer for every table.
   pub one-answer : (t : List ℕ) (r r′ : Checked) → LtlChecks t r → LtlChecks t r′ → r ≡ r′
   -- An accepted table has 1 to 4,096 nodes of three numbers each.
-  pub sized : (t : List ℕ) → ltlRefusal t ≡ none → (length t ≡ 3 * count t) × (1 ≤ count t) × (count t ≤ 4096)
+  pub sized : (t : List ℕ) → ltlRefusal t ≡ none → (length t ≡ 3 * count t) × (1 ≤ count t) × (count t ≤ ltlRules .most)
   -- Each var names a signal.
   pub signal : (t : List ℕ) → ltlRefusal t ≡ none → (i : ℕ) → i < count t → kindAt t i ≡ 1 → leftAt t i < signals
   -- An operand comes before its user.

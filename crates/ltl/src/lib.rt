@@ -33,6 +33,8 @@ pub const NEXT: u16 = 5;
 
 pub const UNTIL: u16 = 6;
 
+pub const KINDS: u16 = 7;
+
 // The most nodes of a table.
 pub const MOST_NODES: usize = 4096;
 
@@ -51,7 +53,7 @@ pub const LTL: Rules = Rules {
         SPARE,
         SPARE,
     ],
-    kinds: 7,
+    kinds: KINDS,
     booleans: 0,
     numbers: Numbers {
         kind: 12,

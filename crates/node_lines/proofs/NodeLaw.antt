@@ -43,12 +43,12 @@ unfolding nodeRefusal
 kind-low i k p q e = ltb-true k 7 (unless-none (known ltlRules k) _ _ e .0)
 
 module _ (i k p q : ℕ) (l : List ℕ) where
-  pub own-large : 4096 ≤ i → Answers i (node k p q) l (Refused (refused 11)) l
-  own-large h = answers i (node k p q) l l (Refused (refused 11)) (some (refused 11)) (rw (le-ltb i 4096 h)) refl refl
+  pub own-large : ltlRules .most ≤ i → Answers i (node k p q) l (Refused (refused 11)) l
+  own-large h = answers i (node k p q) l l (Refused (refused 11)) (some (refused 11)) (rw (le-ltb i (ltlRules .most) h)) refl refl
 
-  module _ (h : i < 4096) (a : Checked) (e : a ≡ checked (nodeRefusal ltlRules i (node k p q) false false)) where
+  module _ (h : i < ltlRules .most) (a : Checked) (e : a ≡ checked (nodeRefusal ltlRules i (node k p q) false false)) where
     fault : nodeFault i (node k p q) ≡ nodeRefusal ltlRules i (node k p q) false false
-    fault = rw (lt-ltb i 4096 h)
+    fault = rw (lt-ltb i (ltlRules .most) h)
 
     pub faulty : (x : Refusal) → a ≡ Checked.Refused x → Answers i (node k p q) l (Refused x) l
     faulty x d = answers i (node k p q) l l (Refused x) (some x) (fault ∙ was-refused _ a x e d) refl refl
@@ -112,7 +112,7 @@ same-places (suc (suc n)) p q p′ q′ _ _ e = (head-eq-of-cons-eq e, head-eq-o
 is-tidy : (i k p q : ℕ) → nodeFault i (node k p q) ≡ none → (k < 7) × Tidy (ltlPlaces k) p q
 unfolding nodeRefusal
 is-tidy i k p q e =
-    let d = unless-none (ltb i 4096) (refused 11) _ e .1 in
+    let d = unless-none (ltb i (ltlRules .most)) (refused 11) _ e .1 in
     let low = kind-low i k p q d in
     let (a, b) = places-fit ltlRules (shapeOf ltlRules k) i p q false false (unless-none (known ltlRules k) _ _ d .1) in
     (low, tidy i k p q low a b)

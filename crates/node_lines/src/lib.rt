@@ -19,7 +19,7 @@ ghost use Rattle.text.specs.Inner.Writer.{Wrote};
 ghost use Rattle.node_lines.specs.Inner.Writer.{spaced};
 
 // The most nodes of an LTL table.
-const MOST_NODES: u16 = 4096;
+const MOST_NODES: u16 = ltl::MOST_NODES as u16;
 
 // Room for any node line; the longest has 26 bytes.
 const LINE_ROOM: usize = 32;
@@ -29,13 +29,13 @@ fn put_word(out: &mut [u8], at: usize, kind: u16) -> usize
     ensures { λ r. ⌜ Wrote (ltlWord kind) (now (out .entry)) (now (out .exit)) at r ⌝ }
 {
     match kind {
-        0 => put_text(out, at, b"true"),
-        1 => put_text(out, at, b"var"),
-        2 => put_text(out, at, b"not"),
-        3 => put_text(out, at, b"and"),
-        4 => put_text(out, at, b"or"),
-        5 => put_text(out, at, b"next"),
-        6 => put_text(out, at, b"until"),
+        ltl::TRUE => put_text(out, at, b"true"),
+        ltl::VAR => put_text(out, at, b"var"),
+        ltl::NOT => put_text(out, at, b"not"),
+        ltl::AND => put_text(out, at, b"and"),
+        ltl::OR => put_text(out, at, b"or"),
+        ltl::NEXT => put_text(out, at, b"next"),
+        ltl::UNTIL => put_text(out, at, b"until"),
         _ => at,
     }
 }
@@ -44,7 +44,7 @@ fn put_word(out: &mut [u8], at: usize, kind: u16) -> usize
 fn places(kind: u16) -> u16
     ensures { λ r. ⌜ r ≡ ltlPlaces kind ⌝ }
 {
-    if kind < 7 {
+    if kind < ltl::KINDS {
         return [0u16, 1, 1, 2, 2, 1, 2][kind as usize];
     }
     0

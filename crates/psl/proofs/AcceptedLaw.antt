@@ -13,7 +13,7 @@ use Rattle.table.specs.Check.{boolean, formula, isBoolean, tableRefusal}
 use Rattle.table.proofs.CheckLaw.{Fits, sort-is, table-sized, kind-in, left-fits, right-fits}
 use Rattle.logic.specs.Formula.{btrue, var, bnot, band, weak, strong, fnot, fand, next, until, abort}
 use Rattle.psl.specs.Table.{asBoolean, asFormula}
-use Rattle.psl.specs.Parts.{booleanAt, formulaAt}
+use Rattle.psl.specs.Inner.Parts.{booleanAt, formulaAt}
 use Rattle.psl.specs.Check.{pslRules, pslRefusal}
 use Rattle.psl.proofs.CheckLaw.{psl-table, psl-root}
 use Rattle.psl.proofs.PartLaw.{part-true, part-var, part-bnot, part-band, part-weak, part-strong, part-not, part-and, part-next, part-until, part-abort}
@@ -32,7 +32,7 @@ module _ (t : List ℕ) (fine : pslRefusal t ≡ none) where
   pub some-node : 0 < count t
   some-node = table-sized pslRules t u .some
 
-  pub most-nodes : count t ≤ 1024
+  pub most-nodes : count t ≤ pslRules .most
   most-nodes = table-sized pslRules t u .low
 
   pub in-threes : 3 * count t ≡ length t

@@ -19,7 +19,7 @@ use Rattle.table.specs.Check.{Use, unused, signal, operand, shapeOf, sortFits, 
 use Rattle.table.specs.Inner.Place.{coded, codedRules, operandOr, bound, lowFits, allFit, Codes}
 use Rattle.table.proofs.CheckLaw.{both-true, unless-none, or-none, Fits, Sound, node-none, node-sound, table-sound, sized, lowest-zero, lowest-next, lowest-some, none-below}
 use Rattle.psl.specs.Check.{pslRules, one, names, namesAt, uses, useRefusal, rootRefusal, treeRefusal, pslRefusal, total}
-use Rattle.psl.specs.Counts.{Counted, Room, Tallied}
+use Rattle.psl.specs.Inner.Counts.{Counted, Room, Tallied}
 
 -- The code's rules are those of PSL tables.
 pub rules-coded : Codes (codedRules pslRules) pslRules
@@ -156,7 +156,7 @@ module _ {t : List ℕ} {i : ℕ} {c : List ℕ} (T : Tallied t i c) (h : i < co
   sound : Sound pslRules t i
   sound = node-sound pslRules t i fine
 
-  few : i < 1024
+  few : i < pslRules .most
   few = omega (arith, sized pslRules t (T .right-length) .low)
 
   abbrev pub left : Use

@@ -13,7 +13,7 @@ use Rattle.table.proofs.ValueLaw.{Same, Local, root-value, value-of}
 use Rattle.logic.specs.Formula.{btrue, var, bnot, band, weak, strong, fnot, fand, next, until, abort}
 use Rattle.psl.specs.Table.{Part, boolean, formula, asBoolean, asFormula, partOf, formulaOf}
 use Rattle.psl.specs.Check.{pslRules}
-use Rattle.psl.specs.Parts.{partAt, booleanAt, formulaAt}
+use Rattle.psl.specs.Inner.Parts.{partAt, booleanAt, formulaAt}
 
 -- ── By its operands ──
 

@@ -16,7 +16,7 @@ use Rattle.psl.proofs.SumLaw.{total-same, total-add, total-zero, total-
 use Rattle.psl.specs.Size.{weighB, weigh, nodeCount}
 use Rattle.psl.specs.Table.{Part, boolean, formula, asBoolean, asFormula, partOf, formulaOf}
 use Rattle.psl.specs.Check.{pslRules, one, names, namesAt, uses, pslRefusal, total}
-use Rattle.psl.specs.Parts.{partAt, formulaAt}
+use Rattle.psl.specs.Inner.Parts.{partAt, formulaAt}
 use Rattle.psl.proofs.CheckLaw.{names-same, names-other, psl-table, psl-used, psl-root}
 use Rattle.psl.proofs.PartLaw.{Sorted, OfSort, part-root, part-node, part-sort, left-part, right-part}
 

@@ -9,7 +9,11 @@ use Rattle.table.specs.Answer.{refused}
 use Rattle.table.specs.Node.{count, kindAt, leftAt, rightAt}
 use Rattle.table.specs.Check.{Use, unused, signal, operand, boolean, formula, Rules, shapeOf, isBoolean, unless, orElse, lowest, tableRefusal}
 
--- What stands left and right, kind by kind. The first four kinds are Booleans, the others formulas.
+-- How many kinds, the first, are Booleans; the others are formulas.
+abbrev pub booleanKinds : ℕ
+booleanKinds = 4
+
+-- What stands left and right, kind by kind.
 abbrev pub pslRules : Rules
 pslRules =
     record {
@@ -28,7 +32,7 @@ pslRules =
           ∷ [];
       most = 1024;
       numbers = record { length = 1; kind = 2; unused = 3; signal = 4; operand = 5 };
-      sorts = some record { booleans = 4; number = 6 };
+      sorts = some record { booleans = booleanKinds; number = 6 };
     }
 
 -- How often a place that holds n names node j: once or not at all.

@@ -8,13 +8,13 @@ use Rattle.table.specs.declared.Checked.{Checked}
 use Rattle.table.specs.Node.{count}
 use Rattle.psl.specs.Size.{nodeCount}
 use Rattle.psl.specs.Table.{formulaOf}
-use Rattle.psl.specs.Check.{pslRefusal}
+use Rattle.psl.specs.Check.{pslRefusal, pslRules}
 use Rattle.psl.specs.Answer.{PslChecks}
 
 pub record Claims : Type 0 where
   -- The check has one answer for every table.
   pub one-answer : (t : List ℕ) (r r′ : Checked) → PslChecks t r → PslChecks t r′ → r ≡ r′
   -- An accepted table has 1 to 1,024 nodes of three numbers each.
-  pub sized : (t : List ℕ) → pslRefusal t ≡ none → (length t ≡ 3 * count t) × (1 ≤ count t) × (count t ≤ 1024)
+  pub sized : (t : List ℕ) → pslRefusal t ≡ none → (length t ≡ 3 * count t) × (1 ≤ count t) × (count t ≤ pslRules .most)
   -- Its formula has as many nodes as the table.
   pub whole : (t : List ℕ) → pslRefusal t ≡ none → nodeCount (formulaOf t) ≡ count t

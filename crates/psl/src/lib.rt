@@ -20,7 +20,7 @@ ghost use Rattle.table.specs.Check.{Use, sortFits, refusalAt};
 ghost use Rattle.table.specs.Inner.Place.{coded, codedShape, operandOr, allFit};
 ghost use Rattle.table.specs.Inner.First.{FirstRefused};
 ghost use Rattle.psl.specs.Check.{pslRules, one, treeRefusal, pslRefusal};
-ghost use Rattle.psl.specs.Counts.{Counted, Room, Tallied};
+ghost use Rattle.psl.specs.Inner.Counts.{Counted, Room, Tallied};
 ghost use Rattle.psl.specs.Answer.{PslChecks};
 
 // The kinds. The first are Booleans.
@@ -46,6 +46,8 @@ pub const UNTIL: u16 = 9;
 
 pub const ABORT: u16 = 10;
 
+pub const KINDS: u16 = 11;
+
 pub const BOOLEANS: u16 = 4;
 
 // The most nodes of a table.
@@ -66,7 +68,7 @@ pub const PSL: Rules = Rules {
         Shape(FORMULA, FORMULA), // 9 until
         Shape(FORMULA, BOOLEAN), // 10 abort
     ],
-    kinds: 11,
+    kinds: KINDS,
     booleans: BOOLEANS,
     numbers: Numbers {
         kind: 2,

@@ -9,7 +9,7 @@ use lib.Pow.{pow-pos}
 use lib.Bits.{bitAnd, bitOr, or-shr, or-mod, mask-lt}
 use Rattle.logic.specs.Letter.{bit}
 use Rattle.trace.specs.Limits.{mostLetters}
-use Rattle.rows.specs.Rows.{Swept}
+use Rattle.rows.specs.Inner.Rows.{Swept}
 use Rattle.logic.proofs.BitLaw.{bit-first, bit-suc, bit-not, bit-and, bit-or, bit-mod, test-first}
 
 abbrev sum : ℕ → ℕ → ℕ → ℕ

@@ -13,7 +13,7 @@ use Rattle.logic.proofs.MomentsLaw.{gapless, inside-before}
 use Rattle.logic.specs.Tree.{Ltl, luntil}
 use Rattle.logic.specs.LtlMeaning.{LtlHolds}
 use Rattle.logic.proofs.StepLaw.{until-now, until-later}
-use Rattle.rows.specs.Rows.{place, Tells, Few, Swept}
+use Rattle.rows.specs.Inner.Rows.{place, Tells, Few, Swept}
 use Rattle.logic.proofs.BitLaw.{bit-zero, bit-brought}
 use Rattle.rows.proofs.PlaceLaw.{place-lt, place-start, in-loop, Next, on, round, end, next}
 use Rattle.logic.proofs.TestLaw.{and-iff, or-iff}

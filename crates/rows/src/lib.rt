@@ -14,7 +14,7 @@ ghost use Rattle.logic.specs.Letter.{bit, signals};
 ghost use Rattle.logic.specs.Trace.{size};
 ghost use Rattle.logic.specs.Tree.{Ltl, lvar, lnot, land, lor, lnext, luntil};
 ghost use Rattle.logic.specs.LtlMeaning.{LtlHoldsOn};
-ghost use Rattle.rows.specs.Rows.{Tells, Few, SignalIn, Learns, Swept, TellsNode};
+ghost use Rattle.rows.specs.Inner.Rows.{Tells, Few, SignalIn, Learns, Swept, TellsNode};
 
 // The last letter of both lists has the lowest bit, the one before it the next, and so on; bits past the first letter may hold anything. So what
 // follows a moment is one bit lower, and nothing has to be masked out. A shift is taken modulo the word's length, so that no caller has to
@@ -108,10 +108,10 @@ fn logic_row(k: u16, a: Row, b: Row) -> Row
     requires { ⌜ (2 ≤ k) × (k < 5) ⌝ }
     ensures { λ w. ⌜ ((lead loop : List ℕ) (l : ℕ) → Few lead loop → TellsNode lead loop k l a b w) ⌝ }
 {
-    if k == 3 {
+    if k == ltl::AND {
         return a & b;
     }
-    if k == 4 {
+    if k == ltl::OR {
         return a | b;
     }
     !a
@@ -121,15 +121,17 @@ fn logic_row(k: u16, a: Row, b: Row) -> Row
 pub fn node_row(k: u16, a: Row, b: Row, period: usize) -> Row
     ensures { λ w. ⌜ ((lead loop : List ℕ) (l : ℕ) → Few lead loop → length loop ≡ period → (k ≡ 1 → ⊥) → TellsNode lead loop k l a b w) ⌝ }
 {
-    if k < 2 {
+    // true
+    if k < ltl::NOT {
         return ALWAYS;
     }
-    if k < 5 {
+    // not, and, or
+    if k < ltl::NEXT {
         return logic_row(k, a, b);
     }
     match k {
-        5 => next_row(a, period),
-        6 => until_row(a, b, period),
+        ltl::NEXT => next_row(a, period),
+        ltl::UNTIL => until_row(a, b, period),
         _ => ALWAYS,
     }
 }

@@ -11,10 +11,10 @@ use Rattle.table.specs.Node.{Node, node, _▸_, count, kindAt, leftAt, rightAt}
 use Rattle.logic.specs.Formula.{BoolExpr, btrue, var, bnot, band, Formula, weak, strong, fnot, fand, next, until, abort}
 use Rattle.psl.specs.Size.{weighB, weigh}
 use Rattle.psl.specs.Check.{pslRefusal}
-use Rattle.psl.specs.Parts.{booleanAt, formulaAt}
+use Rattle.psl.specs.Inner.Parts.{booleanAt, formulaAt}
 use Rattle.psl.proofs.AcceptedLaw.{Boolean, Formula as IsFormula, kind-known, is-weak, is-strong, is-and, is-until}
 use Rattle.translate.specs.Emitted.{varN, notN, andN, nextN, untilN, adds, walkB, gate, literal, walk}
-use Rattle.translate.specs.Stored.{Walks}
+use Rattle.translate.specs.Inner.Stored.{Walks}
 use Rattle.translate.proofs.StoredLaw.{walks-then, walks-both}
 
 -- One node (k, x, y) was stored.

@@ -17,12 +17,12 @@ use Rattle.logic.specs.Formula.{Formula}
 use Rattle.psl.specs.Size.{weigh}
 use Rattle.psl.specs.Table.{formulaOf}
 use Rattle.psl.specs.Check.{pslRefusal, total}
-use Rattle.psl.specs.Parts.{formulaAt}
+use Rattle.psl.specs.Inner.Parts.{formulaAt}
 use Rattle.psl.proofs.PartLaw.{part-root}
 use Rattle.psl.proofs.TreeLaw.{tree-weight, tree-nodes}
 use Rattle.psl.proofs.AcceptedLaw.{most-nodes}
 use Rattle.translate.specs.Emitted.{adds, walk, emitted, emittedSize, mostEmitted}
-use Rattle.translate.specs.Stored.{Walks}
+use Rattle.translate.specs.Inner.Stored.{Walks}
 use Rattle.translate.specs.Answer.{translateRefusal, answer, Delivered, Delivers}
 use Rattle.translate.specs.declared.Translation.the-variants.{Nodes, Refused}
 use Rattle.translate.proofs.WalkLaw.{length-emitted, size-bound}

@@ -15,7 +15,7 @@ use Rattle.table.proofs.PassesLaw.{PassFrom, pass-none, pass-more, nodes-pass}
 use Rattle.table.proofs.KindLaw.{_⨾_, each}
 use Rattle.logic.specs.Formula.{BoolExpr, btrue, var, bnot, band, Formula, weak, strong, fnot, fand, next, until, abort}
 use Rattle.psl.specs.Table.{Part, boolean, formula, asBoolean, asFormula, partOf, formulaOf}
-use Rattle.psl.specs.Parts.{partAt}
+use Rattle.psl.specs.Inner.Parts.{partAt}
 use Rattle.psl.specs.Check.{pslRules, pslRefusal}
 use Rattle.psl.proofs.CheckLaw.{psl-table}
 use Rattle.psl.proofs.PartLaw.{part-root, part-node}
@@ -27,7 +27,7 @@ use Rattle.translate.proofs.ArmLaw.{weightB-pos, weight-pos}
 
 -- ── The signals of a formula ──
 
--- All are below 32.
+-- All are below `signals`.
 abbrev LowB : BoolExpr → Type 0
 LowB btrue = Unit {0}
 LowB (var k) = k < signals
@@ -171,7 +171,7 @@ fineF (abort g b) (h, i) a r ns ha hr f =
 
 -- ── The table ──
 
-pub emitted-accepted : (t : List ℕ) → pslRefusal t ≡ none → emittedSize (formulaOf t) ≤ 4096 → ltlRefusal (emitted (formulaOf t)) ≡ none
+pub emitted-accepted : (t : List ℕ) → pslRefusal t ≡ none → emittedSize (formulaOf t) ≤ ltlRules .most → ltlRefusal (emitted (formulaOf t)) ≡ none
 unfolding emitted
 emitted-accepted t e few =
     let f = formulaOf t in

@@ -8,7 +8,7 @@ use lib.Seq.{sets}
 use Rattle.table.specs.Node.{Node, node, numbersOf, _▸_, last}
 use Rattle.table.proofs.NodeLaw.{length-numbers, length-more}
 use Rattle.translate.specs.Emitted.{andN, orN, gate}
-use Rattle.translate.specs.Stored.{Stored, Walks}
+use Rattle.translate.specs.Inner.Stored.{Stored, Walks}
 
 sets-append : {A : Type 0} (l : List A) (i : ℕ) (xs ys : List A) → sets l i (xs ++ ys) ≡ sets (sets l i xs) (i + length xs) ys
 sets-append l i [] ys = ap (λ (k : ℕ). sets l k ys) (omega arith)

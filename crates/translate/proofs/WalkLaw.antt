@@ -12,6 +12,7 @@ use Rattle.logic.specs.Tree.{Ltl, ltrue, lvar, lnot, land, lor, lnext, luntil}
 use Rattle.ltl.specs.Table.{treeOfNode, treeOf}
 use Rattle.logic.specs.Translation.{treeB, translated, falsum}
 use Rattle.translate.specs.Emitted.{trueN, varN, notN, andN, orN, nextN, untilN, walkB, gate, walk, emittedNodes, emitted, adds, emittedSize, mostEmitted}
+use Rattle.psl.specs.Check.{pslRules}
 
 -- ── What the walk appends ──
 
@@ -190,5 +191,5 @@ adds-bound (until f g) = omega (arith, adds-bound f, adds-bound g)
 adds-bound (abort f b) = omega (arith, adds-bound f, addsB b .0, addsB b .1)
 
 -- The largest table that a formula of at most 1,024 nodes emits has 4,094 nodes.
-pub size-bound : (f : Formula) → nodeCount f ≤ 1024 → emittedSize f ≤ mostEmitted
+pub size-bound : (f : Formula) → nodeCount f ≤ pslRules .most → emittedSize f ≤ mostEmitted
 size-bound f h = omega (arith, adds-bound f)

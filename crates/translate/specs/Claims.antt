@@ -7,7 +7,7 @@ use lib.ListN.{length}
 use Rattle.logic.specs.Formula.{Formula}
 use Rattle.psl.specs.Size.{nodeCount}
 use Rattle.psl.specs.Table.{formulaOf}
-use Rattle.psl.specs.Check.{pslRefusal}
+use Rattle.psl.specs.Check.{pslRefusal, pslRules}
 use Rattle.ltl.specs.Check.{ltlRefusal}
 use Rattle.translate.specs.Emitted.{emitted, emittedSize, mostEmitted}
 use Rattle.translate.specs.Claim.{Translates}
@@ -25,7 +25,7 @@ pub record Claims : Type 0 where
   pub sized : (f : Formula) → length (emitted f) ≡ 3 * emittedSize f
   -- S is at most 4,094 for an accepted table, and some formula of at most 1,024 nodes has that size.
   pub bounded : (t : List ℕ) → pslRefusal t ≡ none → emittedSize (formulaOf t) ≤ mostEmitted
-  pub reached : (f : Formula) × (nodeCount f ≤ 1024) × (emittedSize f ≡ mostEmitted)
+  pub reached : (f : Formula) × (nodeCount f ≤ pslRules .most) × (emittedSize f ≡ mostEmitted)
   -- What an accepted table gives passes the LTL check.
   pub passes : (t : List ℕ) → pslRefusal t ≡ none → ltlRefusal (emitted (formulaOf t)) ≡ none
   -- Demand 3: the emitted table of any formula keeps its meaning.

@@ -9,10 +9,10 @@ ghost use lib.Dec.{eqb};
 ghost use Rattle.table.specs.Node.{node, _▸_, count, kindAt};
 ghost use Rattle.psl.specs.Size.{weighB, weigh};
 ghost use Rattle.psl.specs.Table.{formulaOf};
-ghost use Rattle.psl.specs.Parts.{booleanAt, formulaAt};
-ghost use Rattle.psl.specs.Check.{pslRefusal};
+ghost use Rattle.psl.specs.Inner.Parts.{booleanAt, formulaAt};
+ghost use Rattle.psl.specs.Check.{booleanKinds, pslRefusal};
 ghost use Rattle.translate.specs.Emitted.{adds as addsS, emitted, emittedSize, walkB, walk as walkS, gate as gateS, literal as literalS};
-ghost use Rattle.translate.specs.Stored.{Room, Walks};
+ghost use Rattle.translate.specs.Inner.Stored.{Room, Walks};
 ghost use Rattle.translate.specs.Answer.{Delivers};
 use table::Checked;
 use table::NodeNo;
@@ -43,14 +43,14 @@ fn gate(out: &mut [u16], n: NodeNo, x: NodeNo, a: NodeNo, r: NodeNo) -> NodeNo
     requires { ⌜ Room 3 (n .0) (now out) ⌝ }
     ensures { λ m. ⌜ Walks 3 (gateS (x .0) (a .0) (r .0)) (n .0) (m .0) (now (out .entry)) (now (out .exit)) ⌝ }
 {
-    let p = append(out, n, 2, r.0, 0);
-    let q = append(out, p, 3, x.0, n.0);
-    append(out, q, 4, a.0, p.0)
+    let p = append(out, n, ltl::NOT, r.0, 0);
+    let q = append(out, p, ltl::AND, x.0, n.0);
+    append(out, q, ltl::OR, a.0, p.0)
 }
 
 // A Boolean: its operands, then one node.
 fn walk_boolean(t: &[u16], i: NodeNo, out: &mut [u16], n: NodeNo) -> NodeNo
-    requires { ⌜ (pslRefusal (now t) ≡ none) × (i .0 < count (now t)) × (kindAt (now t) (i .0) < 4)
+    requires { ⌜ (pslRefusal (now t) ≡ none) × (i .0 < count (now t)) × (kindAt (now t) (i .0) < booleanKinds)
         × Room (weighB addsS (booleanAt (now t) (i .0))) (n .0) (now out) ⌝ }
     ensures { λ m. ⌜ Walks (weighB addsS (booleanAt (now (t .entry)) (i .0))) (walkB (booleanAt (now (t .entry)) (i .0)))
         (n .0) (m .0) (now (out .entry)) (now (out .exit)) ⌝ }
@@ -60,23 +60,23 @@ fn walk_boolean(t: &[u16], i: NodeNo, out: &mut [u16], n: NodeNo) -> NodeNo
     let left = t[at + 1];
     let right = t[at + 2];
     match kind {
-        0 => append(out, n, 0, 0, 0),
-        1 => append(out, n, 1, left, 0),
-        2 => {
+        psl::TRUE => append(out, n, ltl::TRUE, 0, 0),
+        psl::VAR => append(out, n, ltl::VAR, left, 0),
+        psl::BNOT => {
             let m = walk_boolean(t, NodeNo(left), out, n);
-            append(out, m, 2, m.0 - 1, 0)
+            append(out, m, ltl::NOT, m.0 - 1, 0)
         }
         _ => {
             let m = walk_boolean(t, NodeNo(left), out, n);
             let p = walk_boolean(t, NodeNo(right), out, m);
-            append(out, p, 3, m.0 - 1, p.0 - 1)
+            append(out, p, ltl::AND, m.0 - 1, p.0 - 1)
         }
     }
 }
 
 // A Boolean under its gate: weak, strong, and an abort's condition.
 fn literal(t: &[u16], i: NodeNo, a: NodeNo, r: NodeNo, out: &mut [u16], n: NodeNo) -> NodeNo
-    requires { ⌜ (pslRefusal (now t) ≡ none) × (i .0 < count (now t)) × (kindAt (now t) (i .0) < 4)
+    requires { ⌜ (pslRefusal (now t) ≡ none) × (i .0 < count (now t)) × (kindAt (now t) (i .0) < booleanKinds)
         × Room (weighB addsS (booleanAt (now t) (i .0)) + 3) (n .0) (now out) ⌝ }
     ensures { λ m. ⌜ Walks (weighB addsS (booleanAt (now (t .entry)) (i .0)) + 3) (literalS (booleanAt (now (t .entry)) (i .0)) (a .0) (r .0))
         (n .0) (m .0) (now (out .entry)) (now (out .exit)) ⌝ }
@@ -89,12 +89,16 @@ fn literal(t: &[u16], i: NodeNo, a: NodeNo, r: NodeNo, out: &mut [u16], n: NodeN
 fn joining(kind: u16) -> u16
     ensures { λ k. ⌜ k ≡ cond (eqb kind 9) 6 3 ⌝ }
 {
-    if kind == 9 { 6 } else { 3 }
+    if kind == psl::UNTIL {
+        ltl::UNTIL
+    } else {
+        ltl::AND
+    }
 }
 
 // A formula, with the numbers of accept a and reject r.
 fn walk(t: &[u16], i: NodeNo, a: NodeNo, r: NodeNo, out: &mut [u16], n: NodeNo) -> NodeNo
-    requires { ⌜ (pslRefusal (now t) ≡ none) × (i .0 < count (now t)) × (4 ≤ kindAt (now t) (i .0))
+    requires { ⌜ (pslRefusal (now t) ≡ none) × (i .0 < count (now t)) × (booleanKinds ≤ kindAt (now t) (i .0))
         × Room (weigh addsS (formulaAt (now t) (i .0))) (n .0) (now out) ⌝ }
     ensures { λ m. ⌜ Walks (weigh addsS (formulaAt (now (t .entry)) (i .0))) (walkS (formulaAt (now (t .entry)) (i .0)) (a .0) (r .0))
         (n .0) (m .0) (now (out .entry)) (now (out .exit)) ⌝ }
@@ -103,20 +107,21 @@ fn walk(t: &[u16], i: NodeNo, a: NodeNo, r: NodeNo, out: &mut [u16], n: NodeNo) 
     let kind = t[at];
     let left = NodeNo(t[at + 1]);
     let right = NodeNo(t[at + 2]);
-    if kind < 6 {
+    // weak, strong
+    if kind < psl::NOT {
         return literal(t, left, a, r, out, n);
     }
     match kind {
-        6 => {
+        psl::NOT => {
             let m = walk(t, left, r, a, out, n);
-            append(out, m, 2, m.0 - 1, 0)
+            append(out, m, ltl::NOT, m.0 - 1, 0)
         }
-        8 => {
+        psl::NEXT => {
             let m = walk(t, left, a, r, out, n);
-            let p = append(out, m, 5, m.0 - 1, 0);
+            let p = append(out, m, ltl::NEXT, m.0 - 1, 0);
             gate(out, p, m, a, r)
         }
-        10 => {
+        psl::ABORT => {
             let m = literal(t, right, a, r, out, n);
             walk(t, left, NodeNo(m.0 - 1), r, out, m)
         }
@@ -133,10 +138,10 @@ fn adds(kind: u16) -> usize
     ensures { λ n. ⌜ (n ≡ addsS kind) × (n ≤ 4) ⌝ }
 {
     match kind {
-        4 => 3,
-        5 => 3,
-        8 => 4,
-        10 => 3,
+        psl::WEAK => 3,
+        psl::STRONG => 3,
+        psl::NEXT => 4,
+        psl::ABORT => 3,
         _ => 1,
     }
 }
@@ -162,8 +167,8 @@ fn emit(t: &[u16], out: &mut [u16])
     ensures { λ _. ⌜ now (out .exit) ≡ emitted (formulaOf (now (t .entry))) ++ drop (length (emitted (formulaOf (now (t .entry))))) (now (out .entry)) ⌝ }
 {
     let root = NodeNo((t.len() / 3 - 1) as u16);
-    let one = append(out, NodeNo(0), 0, 0, 0);
-    let two = append(out, one, 2, 0, 0);
+    let one = append(out, NodeNo(0), ltl::TRUE, 0, 0);
+    let two = append(out, one, ltl::NOT, 0, 0);
     walk(t, root, one, one, out, two);
 }
 

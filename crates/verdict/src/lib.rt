@@ -13,23 +13,27 @@ ghost use Rattle.logic.specs.Trace.{size};
 ghost use Rattle.table.specs.Node.{count, kindAt};
 ghost use Rattle.logic.specs.Meaning.{HoldsOn};
 ghost use Rattle.psl.specs.Table.{formulaOf};
-ghost use Rattle.psl.specs.Parts.{booleanAt, formulaAt};
-ghost use Rattle.psl.specs.Check.{pslRefusal};
+ghost use Rattle.psl.specs.Inner.Parts.{booleanAt, formulaAt};
+ghost use Rattle.psl.specs.Check.{booleanKinds, pslRefusal};
 ghost use Rattle.ltl.specs.Check.{ltlRefusal};
 ghost use Rattle.logic.specs.LtlMeaning.{LtlHoldsOn};
 ghost use Rattle.ltl.specs.Table.{treeOf};
 ghost use Rattle.logic.specs.Empty.{onEmpty};
 ghost use Rattle.logic.specs.Translation.{treeB};
-ghost use Rattle.rows.specs.Rows.{Tells, Few, RowsOf};
-ghost use Rattle.verdict.specs.Rows.{TellsFormula, SignalRows};
+ghost use Rattle.rows.specs.Inner.Rows.{Tells, Few, RowsOf};
+ghost use Rattle.verdict.specs.Inner.Rows.{TellsFormula, SignalRows};
 ghost use Rattle.verdict.specs.Verdict.{PslJudges, LtlJudges};
 use logic::Letter;
+use logic::SIGNALS;
 use rows::ALWAYS;
 use rows::Row;
 use table::Checked;
 use table::NodeNo;
 use trace::MOST_LETTERS;
 use trace::Refusal;
+
+// A row for each signal.
+const ROWS: usize = SIGNALS as usize;
 
 // The rows of the signals that a table names.
 fn signal_rows(t: &[u16], lead: &[Letter], cycle: &[Letter], vars: &mut [Row])
@@ -40,7 +44,7 @@ fn signal_rows(t: &[u16], lead: &[Letter], cycle: &[Letter], vars: &mut [Row])
     let mut known: Letter = 0;
     let mut i: usize = 0;
     while i < n {
-        if t[3 * i] == 1 {
+        if t[3 * i] == psl::VAR {
             known = rows::learn(t[3 * i + 1], known, &mut *vars, lead, cycle);
         }
         i += 1;
@@ -48,8 +52,8 @@ fn signal_rows(t: &[u16], lead: &[Letter], cycle: &[Letter], vars: &mut [Row])
 }
 
 // The row of a Boolean, by the rows of its signals.
-fn boolean_row(t: &[u16], i: NodeNo, vars: &[Row; 32]) -> Row
-    requires { ⌜ (pslRefusal (now t) ≡ none) × (i .0 < count (now t)) × (kindAt (now t) (i .0) < 4) ⌝ }
+fn boolean_row(t: &[u16], i: NodeNo, vars: &[Row; ROWS]) -> Row
+    requires { ⌜ (pslRefusal (now t) ≡ none) × (i .0 < count (now t)) × (kindAt (now t) (i .0) < booleanKinds) ⌝ }
     ensures { λ w. ⌜ ((lead loop : List ℕ) → Few lead loop → SignalRows lead loop (now (t .entry)) (now (vars .entry))
         → Tells lead loop w (treeB (booleanAt (now (t .entry)) (i .0)))) ⌝ }
 {
@@ -58,16 +62,16 @@ fn boolean_row(t: &[u16], i: NodeNo, vars: &[Row; 32]) -> Row
     let left = t[at + 1];
     let right = t[at + 2];
     match kind {
-        0 => ALWAYS,
-        1 => vars[left as usize],
-        2 => !boolean_row(t, NodeNo(left), vars),
+        psl::TRUE => ALWAYS,
+        psl::VAR => vars[left as usize],
+        psl::BNOT => !boolean_row(t, NodeNo(left), vars),
         _ => boolean_row(t, NodeNo(left), vars) & boolean_row(t, NodeNo(right), vars),
     }
 }
 
 // The row of a formula's translation, by the rows of accept and reject and of its signals; the trace's loop has `period` letters.
-fn formula_row(t: &[u16], i: NodeNo, a: Row, r: Row, vars: &[Row; 32], period: usize) -> Row
-    requires { ⌜ (pslRefusal (now t) ≡ none) × (i .0 < count (now t)) × (4 ≤ kindAt (now t) (i .0)) ⌝ }
+fn formula_row(t: &[u16], i: NodeNo, a: Row, r: Row, vars: &[Row; ROWS], period: usize) -> Row
+    requires { ⌜ (pslRefusal (now t) ≡ none) × (i .0 < count (now t)) × (booleanKinds ≤ kindAt (now t) (i .0)) ⌝ }
     ensures { λ w. ⌜ ((lead loop : List ℕ) → Few lead loop → length loop ≡ period → SignalRows lead loop (now (t .entry)) (now (vars .entry))
         → TellsFormula lead loop (formulaAt (now (t .entry)) (i .0)) a r w) ⌝ }
 {
@@ -75,17 +79,19 @@ fn formula_row(t: &[u16], i: NodeNo, a: Row, r: Row, vars: &[Row; 32], period: u
     let kind = t[at];
     let left = NodeNo(t[at + 1]);
     let right = NodeNo(t[at + 2]);
-    if kind < 6 {
+    // weak, strong
+    if kind < psl::NOT {
         return rows::gate(a, boolean_row(t, left, vars), r);
     }
     match kind {
-        6 => !formula_row(t, left, r, a, vars, period),
-        7 => formula_row(t, left, a, r, vars, period) & formula_row(t, right, a, r, vars, period),
-        8 => {
+        psl::NOT => !formula_row(t, left, r, a, vars, period),
+        psl::AND => formula_row(t, left, a, r, vars, period)
+            & formula_row(t, right, a, r, vars, period),
+        psl::NEXT => {
             let x = formula_row(t, left, a, r, vars, period);
             rows::gate(a, rows::next_row(x, period), r)
         }
-        9 => {
+        psl::UNTIL => {
             let x = formula_row(t, left, a, r, vars, period);
             let y = formula_row(t, right, a, r, vars, period);
             rows::until_row(x, y, period)
@@ -99,7 +105,7 @@ fn formula_row(t: &[u16], i: NodeNo, a: Row, r: Row, vars: &[Row; 32], period: u
 
 // A formula on the empty trace.
 fn on_empty(t: &[u16], i: NodeNo) -> bool
-    requires { ⌜ (pslRefusal (now t) ≡ none) × (i .0 < count (now t)) × (4 ≤ kindAt (now t) (i .0)) ⌝ }
+    requires { ⌜ (pslRefusal (now t) ≡ none) × (i .0 < count (now t)) × (booleanKinds ≤ kindAt (now t) (i .0)) ⌝ }
     ensures { λ b. ⌜ b ≡ onEmpty (formulaAt (now (t .entry)) (i .0)) ⌝ }
 {
     let at = 3 * (i.0 as usize);
@@ -107,10 +113,10 @@ fn on_empty(t: &[u16], i: NodeNo) -> bool
     let left = NodeNo(t[at + 1]);
     let right = NodeNo(t[at + 2]);
     match kind {
-        4 => true,
-        6 => !on_empty(t, left),
-        7 => on_empty(t, left) & on_empty(t, right),
-        10 => on_empty(t, left),
+        psl::WEAK => true,
+        psl::NOT => !on_empty(t, left),
+        psl::AND => on_empty(t, left) & on_empty(t, right),
+        psl::ABORT => on_empty(t, left),
         _ => false,
     }
 }
@@ -130,14 +136,14 @@ fn fill_rows(t: &[u16], lead: &[Letter], cycle: &[Letter], told: &mut [Row])
 {
     let n = t.len() / 3;
     let period = cycle.len();
-    let mut vars = [0u64; 32];
+    let mut vars = [0u64; ROWS];
     let mut known: Letter = 0;
     let mut i: usize = 0;
     while i < n {
         let kind = t[3 * i];
         let left = t[3 * i + 1];
         let right = t[3 * i + 2];
-        if kind == 1 {
+        if kind == ltl::VAR {
             known = rows::learn(left, known, &mut vars, lead, cycle);
             told[i] = word(&vars, left);
         } else {
@@ -149,6 +155,9 @@ fn fill_rows(t: &[u16], lead: &[Letter], cycle: &[Letter], told: &mut [Row])
     }
 }
 
+// What a small table has at most.
+const FEW_NODES: usize = 128;
+
 // Whether an accepted LTL table holds on a trace. Small tables, which are the rule, clear a small array.
 fn ltl_holds(t: &[u16], lead: &[Letter], cycle: &[Letter]) -> bool
     requires { ⌜ (ltlRefusal (now t) ≡ none) × Few (now lead) (now cycle) ⌝ }
@@ -156,12 +165,12 @@ fn ltl_holds(t: &[u16], lead: &[Letter], cycle: &[Letter]) -> bool
 {
     let last = t.len() / 3 - 1;
     let letters = lead.len() + cycle.len();
-    if last < 128 {
-        let mut few = [0u64; 128];
+    if last < FEW_NODES {
+        let mut few = [0u64; FEW_NODES];
         fill_rows(t, lead, cycle, &mut few);
         return rows::at_first(few[last], letters);
     }
-    let mut told = [0u64; 4096];
+    let mut told = [0u64; ltl::MOST_NODES];
     fill_rows(t, lead, cycle, &mut told);
     rows::at_first(told[last], letters)
 }
@@ -176,7 +185,7 @@ fn psl_holds(t: &[u16], lead: &[Letter], cycle: &[Letter]) -> bool
     if letters == 0 {
         return on_empty(t, root);
     }
-    let mut vars = [0u64; 32];
+    let mut vars = [0u64; ROWS];
     signal_rows(t, lead, cycle, &mut vars);
     rows::at_first(formula_row(t, root, 0, 0, &vars, cycle.len()), letters)
 }

@@ -7,7 +7,7 @@ use Rattle.table.specs.Answer.{checked}
 use Rattle.table.specs.Node.{count}
 use Rattle.table.proofs.CheckLaw.{sized, refused-node, refused-none}
 use Rattle.psl.specs.Check.{pslRules}
-use Rattle.psl.specs.Counts.{Tallied}
+use Rattle.psl.specs.Inner.Counts.{Tallied}
 use Rattle.psl.proofs.CheckLaw.{psl-by-node, psl-then}
 use Rattle.psl.proofs.check_nodes.Statement.{statement}
 use Rattle.psl.proofs.check_nodes.Tie as tie

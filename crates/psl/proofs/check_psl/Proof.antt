@@ -41,7 +41,7 @@ check-nodes-requires-2 : tie.Need-check-nodes-requires-2
 check-nodes-requires-2 c κs =
     let e = c .before .before in
     let t = e .before .before .before .args .t .now in
-    untallied t 1024 (right-length e) (sized pslRules t (right-length e) .low)
+    untallied t (pslRules .most) (right-length e) (sized pslRules t (right-length e) .low)
 
 returns-2 : tie.Need-returns-2
 returns-2 c = search needs

@@ -13,7 +13,7 @@ use Rattle.table.specs.Inner.Place.{codedShape, codedRules, mostKinds}
 use Rattle.table.proofs.CheckLaw.{Fast, fast-none, fast-some, unknown-some, sized}
 use Rattle.table.proofs.PlaceLaw.{noShape, left-coded, right-coded, shape-coded}
 use Rattle.psl.specs.Check.{pslRules}
-use Rattle.psl.specs.Counts.{Tallied}
+use Rattle.psl.specs.Inner.Counts.{Tallied}
 use Rattle.psl.proofs.CheckLaw.{rules-coded, left-room, right-room, tallied-next}
 use Rattle.psl.proofs.count_uses.Statement.{statement}
 use Rattle.psl.proofs.count_uses.Tie as tie
@@ -41,7 +41,7 @@ uses u = shapeOf pslRules (kindAt (table (turn u)) (turn u .loop .i))
 shape : (u : tie.Else1 Inv-loop μ-loop) → getD (codedRules pslRules .shapes) (kindAt (table (turn u)) (turn u .loop .i)) noShape ≡ codedShape (uses u)
 shape u = shape-coded rules-coded _ (low-kind u)
 
-few : (lp : tie.At-loop Inv-loop μ-loop) → count (table lp) ≤ 1024
+few : (lp : tie.At-loop Inv-loop μ-loop) → count (table lp) ≤ pslRules .most
 few lp = sized pslRules (table lp) (lp .loop .inv .2 .right-length) .low
 
 -- Past the tests, the node is not refused.

@@ -5,7 +5,7 @@ use Prim.Native.Nat.{ℕ, _+_, _-_, _%_, _^_}
 use lib.Bits.{bitAnd, bitOr}
 use Rattle.logic.specs.Letter.{bit}
 use Rattle.trace.specs.Limits.{mostLetters}
-use Rattle.rows.specs.Rows.{Swept}
+use Rattle.rows.specs.Inner.Rows.{Swept}
 use Rattle.rows.proofs.CarryLaw.{swept}
 use Rattle.rows.proofs.sweep.Statement.{statement}
 use Rattle.rows.proofs.sweep.Tie as tie

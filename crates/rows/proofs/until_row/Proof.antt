@@ -5,10 +5,11 @@ use Prim.Native.Nat.{ℕ, _-_, _/_, _%_, _^_}
 use native.Mathlib.Omega.{arith}
 use lib.ListN.{length}
 use Rattle.logic.specs.Letter.{bit}
-use Rattle.rows.specs.Rows.{Swept}
+use Rattle.rows.specs.Inner.Rows.{Swept}
 use Rattle.rows.proofs.UntilLaw.{tells-until-once, tells-until-twice}
 use Rattle.rows.proofs.until_row.Statement.{statement}
 use Rattle.rows.proofs.until_row.Tie as tie
+use Rattle.trace.specs.Limits.{mostLetters}
 
 sweep-requires : tie.Need-sweep-requires
 sweep-requires c κs = search needs
@@ -31,7 +32,7 @@ returns-2 : tie.Need-returns-2
 returns-2 c lead loop x y few e F G =
     let a = c .before .before .before .args in
     let once = c .before .before .sweep in
-    let z : (a .period - 1) % 64 ≡ length loop - 1 = omega arith in
+    let z : (a .period - 1) % mostLetters ≡ length loop - 1 = omega arith in
     tells-until-twice lead loop few (a .f) (a .g) x y F G (once .result) (c .sweep2 .result) (λ z. c .before .if1 .left (sym e ∙ z)) (once .ensures)
     (subst (λ (n : ℕ). Swept (a .f) (a .g) (bit (once .result / 2 ^ n) 0) (c .sweep2 .result)) z (c .sweep2 .ensures))
 

@@ -8,11 +8,11 @@ use Prim.Native.Nat.{ℕ, _+_, _≤_, _<_}
 use lib.ListN.{length}
 use Rattle.table.specs.Node.{count, kindAt}
 use Rattle.psl.specs.Size.{weigh}
-use Rattle.psl.specs.Parts.{formulaAt}
+use Rattle.psl.specs.Inner.Parts.{formulaAt}
 use Rattle.psl.specs.Check.{pslRefusal}
 use Rattle.psl.proofs.AcceptedLaw.{Boolean, Formula, is-not, is-next, is-abort}
 use Rattle.translate.specs.Emitted.{adds}
-use Rattle.translate.specs.Stored.{Room}
+use Rattle.translate.specs.Inner.Stored.{Room}
 use Rattle.translate.proofs.ArmLaw.{weight-not, weight-next, weight-abort, some-formula, literal-node, Joined, joined-node, arm-not, arm-next, arm-abort}
 use borrow.Fn.Kinds.{In}
 use borrow.Fn.PlainCycle.{Measures, is, falls, and}

@@ -8,11 +8,11 @@ use Prim.Native.Nat.{ℕ, _+_, _≤_, _<_}
 use lib.ListN.{length}
 use Rattle.table.specs.Node.{count, kindAt}
 use Rattle.psl.specs.Size.{weighB}
-use Rattle.psl.specs.Parts.{booleanAt}
+use Rattle.psl.specs.Inner.Parts.{booleanAt}
 use Rattle.psl.specs.Check.{pslRefusal}
 use Rattle.psl.proofs.AcceptedLaw.{Boolean, is-true, is-var, is-bnot, is-band}
 use Rattle.translate.specs.Emitted.{adds}
-use Rattle.translate.specs.Stored.{Room}
+use Rattle.translate.specs.Inner.Stored.{Room}
 use Rattle.translate.proofs.ArmLaw.{weight-true, weight-var, weight-bnot, weight-band, some-boolean, arm-true, arm-var, arm-bnot, arm-band}
 use borrow.Fn.Kinds.{In}
 use borrow.Fn.PlainCycle.{Measures, is, falls, and}

@@ -6,7 +6,7 @@ use mathlib.Core.Option.{none}
 use mathlib.Core.List.{List}
 use Prim.Native.Nat.{ℕ, _≤_, _<_}
 use Rattle.table.specs.Node.{count, kindAt, leftAt, rightAt}
-use Rattle.psl.specs.Parts.{booleanAt, formulaAt}
+use Rattle.psl.specs.Inner.Parts.{booleanAt, formulaAt}
 use Rattle.psl.specs.Check.{pslRefusal}
 use Rattle.psl.proofs.AcceptedLaw.{Boolean, Formula, kind-known, is-not, is-and, is-next, is-until, is-abort}
 use Rattle.logic.specs.Translation.{treeB, translated}

@@ -9,7 +9,7 @@ use Rattle.logic.specs.Letter.{signals}
 use Rattle.table.specs.Node.{count, kindAt, leftAt, rightAt}
 use Rattle.ltl.proofs.AcceptedLaw.{is-var, operands-below}
 use Rattle.logic.specs.Tree.{lvar}
-use Rattle.rows.specs.Rows.{Tells, TellsNode, Known}
+use Rattle.rows.specs.Inner.Rows.{Tells, TellsNode, Known}
 use Rattle.rows.proofs.SignalLaw.{known-none}
 use Rattle.rows.proofs.TableLaw.{Told, told-none, told-more, told-all, tells-signal}
 use Rattle.verdict.proofs.fill_rows.Statement.{statement}

@@ -8,10 +8,11 @@ use lib.ListN.{getD}
 use Rattle.table.specs.Node.{count}
 use Rattle.ltl.specs.Table.{treeOf}
 use Rattle.ltl.proofs.AcceptedLaw.{some-node, most-nodes}
-use Rattle.rows.specs.Rows.{Tells, RowsOf}
+use Rattle.rows.specs.Inner.Rows.{Tells, RowsOf}
 use Rattle.rows.proofs.TableLaw.{rows-root}
 use Rattle.verdict.proofs.ltl_holds.Statement.{statement}
 use Rattle.verdict.proofs.ltl_holds.Tie as tie
+use Rattle.ltl.specs.Check.{ltlRules}
 
 -- Where the lengths of the three lists are known.
 abbrev Known : Type 0
@@ -36,7 +37,7 @@ small c = c .before .before .before .before
 abbrev large : tie.After-told2 → Known
 large c = c .before .before .before .before
 
-nodes : (n : Known) → (0 < count (table n)) × (count (table n) ≤ 4096)
+nodes : (n : Known) → (0 < count (table n)) × (count (table n) ≤ ltlRules .most)
 nodes n = let fine = start n .pre .0 in (some-node (table n) fine, most-nodes (table n) fine)
 
 root : (n : Known) (w : List ℕ) → RowsOf (lead n) (cycle n) (table n) w → Tells (lead n) (cycle n) (getD w (count (table n) - 1) 0) (treeOf (table n))

@@ -6,11 +6,11 @@ use mathlib.Core.Option.{none}
 use mathlib.Core.List.{List}
 use Prim.Native.Nat.{ℕ, _-_, _≤_, _<_}
 use Rattle.table.specs.Node.{count, kindAt}
-use Rattle.psl.specs.Parts.{formulaAt}
-use Rattle.psl.specs.Check.{pslRefusal}
+use Rattle.psl.specs.Inner.Parts.{formulaAt}
+use Rattle.psl.specs.Check.{pslRefusal, pslRules}
 use Rattle.psl.proofs.AcceptedLaw.{some-node, most-nodes, root-formula}
 use Rattle.logic.specs.Translation.{translated, falsum}
-use Rattle.rows.specs.Rows.{Few}
+use Rattle.rows.specs.Inner.Rows.{Few}
 use Rattle.rows.proofs.RowLaw.{tells-false}
 use Rattle.verdict.proofs.HoldsLaw.{holds-none, holds-some}
 use Rattle.verdict.proofs.psl_holds.Statement.{statement}
@@ -33,7 +33,7 @@ signals c = c .before .before
 abbrev lettered : tie.After-signal-rows → Known
 lettered s = s .before .before .before
 
-nodes : (n : Known) → (0 < count (table n)) × (count (table n) ≤ 1024)
+nodes : (n : Known) → (0 < count (table n)) × (count (table n) ≤ pslRules .most)
 nodes n = let fine = start n .pre .0 in (some-node (table n) fine, most-nodes (table n) fine)
 
 -- What is asked for the root, which is a formula.

@@ -1,0 +1,3 @@
+-- What the inner functions and the walks over a table speak of.
+pub mod Parts
+pub mod Counts
