@@ -27,9 +27,9 @@ more-words kind ks w (inl e) = inl e
 more-words kind ks w (inr (k, m, e)) = inr (k, elem-there kind k ks m, e)
 
 -- One keyword more, w, which stands up to p, before the kinds ks of which the reading is o.
-module _ (s w : List ℕ) (at p kind : ℕ) (ks : List ℕ) (e : keyword kind ≡ w) (m : WordRead w s at p) (o : Keyword) (h : KeywordRead ks s at o) where
+module _ (s w : List ℕ) (at p kind : ℕ) (ks : List ℕ) (e : keyword kind ≡ w) (in-s : at ≤ length s) (m : WordRead w s at p) (o : Keyword) (h : KeywordRead ks s at o) where
   pub try-found : p ≡ at + length w → KeywordRead (kind ∷ ks) s at (Found kind p)
-  try-found i = (elem-here kind ks, subst (λ (x : List ℕ). Stands x s at p) (sym e) (m .whole i))
+  try-found i = (elem-here kind ks, subst (λ (x : List ℕ). Stands x s at p) (sym e) (m .whole in-s i))
 
   pub try-later : (k next : ℕ) → o ≡ Found k next → KeywordRead (kind ∷ ks) s at (Found k next)
   try-later k next i = let (a, b) = subst (KeywordRead ks s at) i h in (elem-there kind k ks a, b)
@@ -42,7 +42,7 @@ module _ (s w : List ℕ) (at p kind : ℕ) (ks : List ℕ) (e : keyword kind �
     neither r a b s′ g (v, t, (k, n, d), f) = go (eqb kind k) refl n
       where
         go : (y : Bool) → eqb kind k ≡ y → T (y || elem k ks) → ⊥
-        go true y j = m .part z .none s′ (agree-less (omega arith) g) (v, t, d ∙ ap keyword (sym (eqb-true kind k y)) ∙ e, f)
+        go true y j = m .part in-s z .none s′ (agree-less (omega arith) g) (v, t, d ∙ ap keyword (sym (eqb-true kind k y)) ∙ e, f)
         go false y j = others .none s′ (agree-less (omega arith) g) (v, t, (k, j, d), f)
 
     pub try-far : p < q → KeywordRead (kind ∷ ks) s at (FaultAt q)
@@ -57,7 +57,7 @@ module _ (s w : List ℕ) (at p kind : ℕ) (ks : List ℕ) (e : keyword kind �
 
     pub try-near : q ≤ p → KeywordRead (kind ∷ ks) s at (FaultAt p)
     try-near a =
-        let here = m .part z in
+        let here = m .part in-s z in
         let (x, y, u, v) = here .begun in
         record {
           after = here .after;

@@ -131,25 +131,25 @@ module _ (limit n d v : ℕ) where
 pub word-none : (w s : List ℕ) (at : ℕ) → at ≤ length s → Stands (take 0 w) s at (at + 0)
 word-none w s at h = rw add-zero (record { is = refl; after = omega arith; within = h })
 
-module _ (w s : List ℕ) (at i : ℕ) (a : Stands (take i w) s at (at + i)) where
+module _ (w s : List ℕ) (at i : ℕ) (a : at ≤ length s → Stands (take i w) s at (at + i)) where
   pub word-more : i < length w → at + i < length s → byteAt s (at + i) ≡ getD w i 0 → Stands (take (i + 1) w) s at (at + (i + 1))
   word-more h g e =
       let f : take i w ++ (getD w i 0 ∷ []) ≡ take (i + 1) w = sym (ap (λ (j : ℕ). take j w) (add-one i) ∙ take-suc w i 0 h) in
       let j : at + i + 1 ≡ at + (i + 1) = omega arith in
-      subst (Stands (take (i + 1) w) s at) j (subst (λ (x : List ℕ). Stands x s at (at + i + 1)) f (stands-join a (stands-one (getD w i 0) e g)))
+      subst (Stands (take (i + 1) w) s at) j (subst (λ (x : List ℕ). Stands x s at (at + i + 1)) f (stands-join (a (omega arith)) (stands-one (getD w i 0) e g)))
 
   pub word-part : i < length w → (byteAt s (at + i) ≡ getD w i 0 → ⊥) → WordRead w s at (at + i)
   word-part h z =
       record {
-        whole = λ e. absurd (omega arith);
-        part = λ _.
+        whole = λ _ e. absurd (omega arith);
+        part = λ k _.
             record {
               after = omega arith;
-              within = a .within;
-              begun = (take i w, drop i w, a .is, take-append-drop i w);
+              within = a k .within;
+              begun = (take i w, drop i w, a k .is, take-append-drop i w);
               none = λ s′ g (v, t, e, d).
                   let x : take i w ++ drop (at + i) s′ ≡ take i w ++ (getD w i 0 ∷ (drop (suc i) w ++ t)) =
-                  sym (stands-same s′ a (agree-less (omega arith) g)) ∙ d
+                  sym (stands-same s′ (a k) (agree-less (omega arith) g)) ∙ d
                   ∙ ap (λ (y : List ℕ). y ++ t) (e ∙ split-at w i 0 h) ∙ append-assoc (take i w) (getD w i 0 ∷ drop (suc i) w) t in
                   z (agree-byte (at + i) (omega arith) g
                   ∙ byte-drop s′ (at + i) (getD w i 0) (drop (suc i) w ++ t) (append-cancel-left (take i w) _ _ x));
@@ -158,4 +158,4 @@ module _ (w s : List ℕ) (at i : ℕ) (a : Stands (take i w) s at (at + i)) whe
 
   pub word-whole : length w ≤ i → i ≤ length w → WordRead w s at (at + i)
   word-whole h g =
-      record { whole = λ _. subst (λ (x : List ℕ). Stands x s at (at + i)) (take-all i w h) a; part = λ z. absurd (z (omega arith)) }
+      record { whole = λ k _. subst (λ (x : List ℕ). Stands x s at (at + i)) (take-all i w h) (a k); part = λ _ z. absurd (z (omega arith)) }

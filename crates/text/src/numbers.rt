@@ -1,7 +1,6 @@
 // Reading numbers at a place of a line.
 use crate::scan::byte;
-ghost use Prim.Native.Nat.{ℕ, _+_, _*_, _≤_};
-ghost use lib.ListN.{length};
+ghost use Prim.Native.Nat.{ℕ, _+_, _*_};
 ghost use Rattle.text.specs.Inner.Scan.{DigitRead, Counts, NumberRead};
 
 // The digit at a place, or 10 where there is none.
@@ -58,7 +57,6 @@ pub enum Number {
 
 // A decimal number without leading zeros.
 pub fn read_number(s: &[u8], at: usize, limit: u64) -> Number
-    requires { ⌜ at ≤ length (now s) ⌝ }
     ensures { λ r. ⌜ NumberRead (now (s .entry)) at limit r ⌝ }
 {
     let first = digit(s, at);

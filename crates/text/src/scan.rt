@@ -1,7 +1,7 @@
 // Reading bytes and words at a place of a line.
 ghost use mathlib.Core.Path.{_≡_};
 ghost use mathlib.Core.Bool.{_||_};
-ghost use Prim.Native.Nat.{_<_, _≤_};
+ghost use Prim.Native.Nat.{_<_};
 ghost use lib.ListN.{length};
 ghost use Rattle.text.specs.Inner.Places.{byteAt};
 ghost use Rattle.text.specs.Inner.Scan.{WordRead};
@@ -18,7 +18,6 @@ pub fn byte(s: &[u8], at: usize) -> u16
 
 // How far a word stands at a place.
 pub fn match_word(s: &[u8], at: usize, w: &[u8]) -> usize
-    requires { ⌜ at ≤ length (now s) ⌝ }
     ensures { λ r. ⌜ WordRead (now (w .entry)) (now (s .entry)) at r ⌝ }
 {
     let mut i: usize = 0;

@@ -35,7 +35,7 @@ returns-2 c =
     let x = start .args in
     let s = x .s .now in
     let at = x .at in
-    subst (λ (so : ℕ). Stops (FormOf so) s at (at-match-word .match-word .result)) (sym (at-if1 .if1 .left)) (true-part s at (start .pre .1) (at-match-word .match-word .ensures .part (c .if2 .taken)))
+    subst (λ (so : ℕ). Stops (FormOf so) s at (at-match-word .match-word .result)) (sym (at-if1 .if1 .left)) (true-part s at (start .pre .1) (at-match-word .match-word .ensures .part (start .pre .0 .within) (c .if2 .taken)))
 
 put-node-requires : tie.Need-put-node-requires
 put-node-requires c κs =
@@ -58,7 +58,7 @@ returns-3 c =
     let x = start .args in
     let s = x .s .now in
     let at = x .at in
-    (truth, at-if1 .if1 .left, true-stands s at (x .n) (at-match-word .match-word .result) (x .out .now) (at-put-node .put-node .last .0) (start .pre .0 .few) (at-match-word .match-word .ensures .whole (at-if2 .if2 .left)) (at-if2 .if2 .left) (at-put-node .put-node .ensures))
+    (truth, at-if1 .if1 .left, true-stands s at (x .n) (at-match-word .match-word .result) (x .out .now) (at-put-node .put-node .last .0) (start .pre .0 .few) (at-match-word .match-word .ensures .whole (start .pre .0 .within) (at-if2 .if2 .left)) (at-if2 .if2 .left) (at-put-node .put-node .ensures))
 
 pub read-true-spec : {M : Type 1} → statement M
 read-true-spec =

@@ -18,7 +18,7 @@ match-word-requires c κs = search needs
 returns : tie.Need-returns
 returns c =
     let at-match-word = c .before in
-    not-psl (at-match-word .match-word .ensures .part (c .if1 .taken))
+    not-psl (at-match-word .match-word .ensures .part (omega arith) (c .if1 .taken))
 
 read-form-requires : tie.Need-read-form-requires
 read-form-requires c κs =
@@ -27,7 +27,7 @@ read-form-requires c κs =
     let at-match-word = c .before .before in
     let s = start .args .s .now in
     let l = start .args .out .now in
-    let o = subst (Stands (text "(psl ") s 0) (at-if1 .if1 .left) (at-match-word .match-word .ensures .whole (at-if1 .if1 .left)) in
+    let o = subst (Stands (text "(psl ") s 0) (at-if1 .if1 .left) (at-match-word .match-word .ensures .whole (omega arith) (at-if1 .if1 .left)) in
     record { few = omega arith; within = o .within; short = start .pre }
 
 enum-known-q : tie.Need-enum-known-q
@@ -52,7 +52,7 @@ returns-2 c =
     let at-byte = c .before in
     let s = start .args .s .now in
     let l = start .args .out .now in
-    let o = subst (Stands (text "(psl ") s 0) (at-if1 .if1 .left) (at-match-word .match-word .ensures .whole (at-if1 .if1 .left)) in
+    let o = subst (Stands (text "(psl ") s 0) (at-if1 .if1 .left) (at-match-word .match-word .ensures .whole (omega arith) (at-if1 .if1 .left)) in
     let (f, sf, a) = subst (FormRead 1 s 5 0 l (at-read-form .read-form .last .1 .1 .1 .0)) (at-next .next .given .1) (at-read-form .read-form .ensures) in
     not-closed o sf a (λ e. c .if2 .taken (at-byte .byte .ensures .0 ∙ e))
 
@@ -65,7 +65,7 @@ add-if3 c =
     let at-next = c .before .before .before in
     let s = start .args .s .now in
     let l = start .args .out .now in
-    let o = subst (Stands (text "(psl ") s 0) (at-if1 .if1 .left) (at-match-word .match-word .ensures .whole (at-if1 .if1 .left)) in
+    let o = subst (Stands (text "(psl ") s 0) (at-if1 .if1 .left) (at-match-word .match-word .ensures .whole (omega arith) (at-if1 .if1 .left)) in
     let (f, sf, a) = subst (FormRead 1 s 5 0 l (at-read-form .read-form .last .1 .1 .1 .0)) (at-next .next .given .1) (at-read-form .read-form .ensures) in
     omega (arith, a .stands .within, start .pre)
 
@@ -78,7 +78,7 @@ add-t20 c =
     let at-next = c .before .before .before .before in
     let s = start .args .s .now in
     let l = start .args .out .now in
-    let o = subst (Stands (text "(psl ") s 0) (at-if1 .if1 .left) (at-match-word .match-word .ensures .whole (at-if1 .if1 .left)) in
+    let o = subst (Stands (text "(psl ") s 0) (at-if1 .if1 .left) (at-match-word .match-word .ensures .whole (omega arith) (at-if1 .if1 .left)) in
     let (f, sf, a) = subst (FormRead 1 s 5 0 l (at-read-form .read-form .last .1 .1 .1 .0)) (at-next .next .given .1) (at-read-form .read-form .ensures) in
     omega (arith, a .stands .within, start .pre)
 
@@ -96,7 +96,7 @@ returns-3 c =
     let at-if2 = c .before in
     let s = start .args .s .now in
     let l = start .args .out .now in
-    let o = subst (Stands (text "(psl ") s 0) (at-if1 .if1 .left) (at-match-word .match-word .ensures .whole (at-if1 .if1 .left)) in
+    let o = subst (Stands (text "(psl ") s 0) (at-if1 .if1 .left) (at-match-word .match-word .ensures .whole (omega arith) (at-if1 .if1 .left)) in
     let (f, sf, a) = subst (FormRead 1 s 5 0 l (at-read-form .read-form .last .1 .1 .1 .0)) (at-next .next .given .1) (at-read-form .read-form .ensures) in
     tail-left o sf a (sym (at-byte .byte .ensures .0) ∙ at-if2 .if2 .left) (at-byte .byte .ensures .1 (omega (arith, at-if2 .if2 .left))) (c .if3 .taken)
 
@@ -109,7 +109,7 @@ add-t18 c =
     let at-next = c .before .before .before .before in
     let s = start .args .s .now in
     let l = start .args .out .now in
-    let o = subst (Stands (text "(psl ") s 0) (at-if1 .if1 .left) (at-match-word .match-word .ensures .whole (at-if1 .if1 .left)) in
+    let o = subst (Stands (text "(psl ") s 0) (at-if1 .if1 .left) (at-match-word .match-word .ensures .whole (omega arith) (at-if1 .if1 .left)) in
     let (f, sf, a) = subst (FormRead 1 s 5 0 l (at-read-form .read-form .last .1 .1 .1 .0)) (at-next .next .given .1) (at-read-form .read-form .ensures) in
     omega (arith, a .stands .within, start .pre)
 
@@ -125,7 +125,7 @@ returns-4 c =
     let at-q = c .before in
     let s = start .args .s .now in
     let l = start .args .out .now in
-    let o = subst (Stands (text "(psl ") s 0) (at-if1 .if1 .left) (at-match-word .match-word .ensures .whole (at-if1 .if1 .left)) in
+    let o = subst (Stands (text "(psl ") s 0) (at-if1 .if1 .left) (at-match-word .match-word .ensures .whole (omega arith) (at-if1 .if1 .left)) in
     no-form o (subst (FormRead 1 s 5 0 l (at-read-form .read-form .last .1 .1 .1 .0)) (at-q .q .given .1) (at-read-form .read-form .ensures))
 
 same-length-4 : tie.Need-same-length-4
@@ -142,7 +142,7 @@ returns-5 c =
     let at-if2 = c .before in
     let s = start .args .s .now in
     let l = start .args .out .now in
-    let o = subst (Stands (text "(psl ") s 0) (at-if1 .if1 .left) (at-match-word .match-word .ensures .whole (at-if1 .if1 .left)) in
+    let o = subst (Stands (text "(psl ") s 0) (at-if1 .if1 .left) (at-match-word .match-word .ensures .whole (omega arith) (at-if1 .if1 .left)) in
     let (f, sf, a) = subst (FormRead 1 s 5 0 l (at-read-form .read-form .last .1 .1 .1 .0)) (at-next .next .given .1) (at-read-form .read-form .ensures) in
     line-read o sf a (sym (at-byte .byte .ensures .0) ∙ at-if2 .if2 .left) (at-byte .byte .ensures .1 (omega (arith, at-if2 .if2 .left))) (c .if3 .left)
 

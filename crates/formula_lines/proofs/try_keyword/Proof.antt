@@ -17,7 +17,7 @@ returns c =
     let at-match-word = c .before in
     let x = start .args in
     let m = at-match-word .match-word in
-    λ ks e h. try-found (x .s .now) (x .w .now) (x .at) (m .result) (x .kind) ks e (m .ensures) (x .others) h (c .if1 .taken)
+    λ ks e h. try-found (x .s .now) (x .w .now) (x .at) (m .result) (x .kind) ks e (start .pre) (m .ensures) (x .others) h (c .if1 .taken)
 
 enum-known-others : tie.Need-enum-known-others
 enum-known-others c = search needs
@@ -33,7 +33,7 @@ returns-2 c =
     let x = start .args in
     let m = at-match-word .match-word in
     let g = at-others .others .given in
-    λ ks e h. try-later (x .s .now) (x .w .now) (x .at) (m .result) (x .kind) ks e (m .ensures) (x .others) h (g .0 .0) (g .0 .1 .0) (g .1)
+    λ ks e h. try-later (x .s .now) (x .w .now) (x .at) (m .result) (x .kind) ks e (start .pre) (m .ensures) (x .others) h (g .0 .0) (g .0 .1 .0) (g .1)
 
 returns-3 : tie.Need-returns-3
 returns-3 c =
@@ -44,7 +44,7 @@ returns-3 c =
     let x = start .args in
     let m = at-match-word .match-word in
     let g = at-others2 .others2 .given in
-    λ ks e h. try-far (x .s .now) (x .w .now) (x .at) (m .result) (x .kind) ks e (m .ensures) (x .others) h (at-if1 .if1 .left) (g .0 .0) (g .1) (c .if2 .taken)
+    λ ks e h. try-far (x .s .now) (x .w .now) (x .at) (m .result) (x .kind) ks e (start .pre) (m .ensures) (x .others) h (at-if1 .if1 .left) (g .0 .0) (g .1) (c .if2 .taken)
 
 returns-4 : tie.Need-returns-4
 returns-4 c =
@@ -55,7 +55,7 @@ returns-4 c =
     let x = start .args in
     let m = at-match-word .match-word in
     let g = at-others2 .others2 .given in
-    λ ks e h. try-near (x .s .now) (x .w .now) (x .at) (m .result) (x .kind) ks e (m .ensures) (x .others) h (at-if1 .if1 .left) (g .0 .0) (g .1) (omega arith)
+    λ ks e h. try-near (x .s .now) (x .w .now) (x .at) (m .result) (x .kind) ks e (start .pre) (m .ensures) (x .others) h (at-if1 .if1 .left) (g .0 .0) (g .1) (omega arith)
 
 pub try-keyword-spec : {M : Type 1} → statement M
 try-keyword-spec =

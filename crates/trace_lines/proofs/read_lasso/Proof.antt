@@ -20,14 +20,7 @@ slice-aggregate-match-word : tie.Need-slice-aggregate-match-word
 slice-aggregate-match-word c = search needs
 
 match-word-requires : tie.Need-match-word-requires
-match-word-requires c κs =
-    let start = c .before .before .before .before .before .before .before .before .before .before .before in
-    let at-read-list = c .before .before .before .before .before .before in
-    let at-next = c .before .before in
-    let x = start .args in
-    let s = x .s .now in
-    let (xs, _, a) = subst (LettersRead listed Any s (x .at) 0 (x .lead .now) (at-read-list .read-list .last .1 .1 .0)) (at-next .next .given .1) (at-read-list .read-list .ensures) in
-    a .stands .within
+match-word-requires c κs = search needs
 
 add-if1 : tie.Need-add-if1
 add-if1 c =
@@ -51,7 +44,7 @@ returns c =
     let x = start .args in
     let s = x .s .now in
     let (xs, _, a) = subst (LettersRead listed Any s (x .at) 0 (x .lead .now) (at-read-list .read-list .last .1 .1 .0)) (at-next .next .given .1) (at-read-list .read-list .ensures) in
-    no-loop xs (a .stands) (at-match-word .match-word .ensures .part (c .if1 .taken))
+    no-loop xs (a .stands) (at-match-word .match-word .ensures .part (a .stands .within) (c .if1 .taken))
 
 read-some-requires : tie.Need-read-some-requires
 read-some-requires c κs =
@@ -63,7 +56,7 @@ read-some-requires c κs =
     let x = start .args in
     let s = x .s .now in
     let (xs, _, a) = subst (LettersRead listed Any s (x .at) 0 (x .lead .now) (at-read-list .read-list .last .1 .1 .0)) (at-next .next .given .1) (at-read-list .read-list .ensures) in
-    let o = at-match-word .match-word .ensures .whole (at-if1 .if1 .left) in
+    let o = at-match-word .match-word .ensures .whole (a .stands .within) (at-if1 .if1 .left) in
     record { few = omega arith; within = o .within; short = start .pre .short }
 
 enum-known-q : tie.Need-enum-known-q
@@ -94,7 +87,7 @@ returns-2 c =
     let x = start .args in
     let s = x .s .now in
     let (xs, _, a) = subst (LettersRead listed Any s (x .at) 0 (x .lead .now) (at-read-list .read-list .last .1 .1 .0)) (at-next .next .given .1) (at-read-list .read-list .ensures) in
-    let o = at-match-word .match-word .ensures .whole (at-if1 .if1 .left) in
+    let o = at-match-word .match-word .ensures .whole (a .stands .within) (at-if1 .if1 .left) in
     let (ys, h, b) = subst (LettersRead listed Some s (at-match-word .match-word .result) 0 (x .cycle .now) (at-read-some .read-some .last .1 .1 .0)) (at-end .end .given .1) (at-read-some .read-some .ensures) in
     lasso-open xs (a .stands) o ys h (b .stands) (λ e. c .if2 .taken (at-byte .byte .ensures .0 ∙ e))
 
@@ -110,7 +103,7 @@ add-if3 c =
     let x = start .args in
     let s = x .s .now in
     let (xs, _, a) = subst (LettersRead listed Any s (x .at) 0 (x .lead .now) (at-read-list .read-list .last .1 .1 .0)) (at-next .next .given .1) (at-read-list .read-list .ensures) in
-    let o = at-match-word .match-word .ensures .whole (at-if1 .if1 .left) in
+    let o = at-match-word .match-word .ensures .whole (a .stands .within) (at-if1 .if1 .left) in
     let (ys, h, b) = subst (LettersRead listed Some s (at-match-word .match-word .result) 0 (x .cycle .now) (at-read-some .read-some .last .1 .1 .0)) (at-end .end .given .1) (at-read-some .read-some .ensures) in
     omega (arith, b .stands .within, start .pre .short)
 
@@ -126,7 +119,7 @@ add-t31 c =
     let x = start .args in
     let s = x .s .now in
     let (xs, _, a) = subst (LettersRead listed Any s (x .at) 0 (x .lead .now) (at-read-list .read-list .last .1 .1 .0)) (at-next .next .given .1) (at-read-list .read-list .ensures) in
-    let o = at-match-word .match-word .ensures .whole (at-if1 .if1 .left) in
+    let o = at-match-word .match-word .ensures .whole (a .stands .within) (at-if1 .if1 .left) in
     let (ys, h, b) = subst (LettersRead listed Some s (at-match-word .match-word .result) 0 (x .cycle .now) (at-read-some .read-some .last .1 .1 .0)) (at-end .end .given .1) (at-read-some .read-some .ensures) in
     omega (arith, b .stands .within, start .pre .short)
 
@@ -150,7 +143,7 @@ returns-3 c =
     let x = start .args in
     let s = x .s .now in
     let (xs, _, a) = subst (LettersRead listed Any s (x .at) 0 (x .lead .now) (at-read-list .read-list .last .1 .1 .0)) (at-next .next .given .1) (at-read-list .read-list .ensures) in
-    let o = at-match-word .match-word .ensures .whole (at-if1 .if1 .left) in
+    let o = at-match-word .match-word .ensures .whole (a .stands .within) (at-if1 .if1 .left) in
     let (ys, h, b) = subst (LettersRead listed Some s (at-match-word .match-word .result) 0 (x .cycle .now) (at-read-some .read-some .last .1 .1 .0)) (at-end .end .given .1) (at-read-some .read-some .ensures) in
     lasso-tail xs (a .stands) o ys h (b .stands) (sym (at-byte .byte .ensures .0) ∙ at-if2 .if2 .left) (at-byte .byte .ensures .1 (omega (arith, at-if2 .if2 .left))) (c .if3 .taken)
 
@@ -187,7 +180,7 @@ returns-5 c =
     let x = start .args in
     let s = x .s .now in
     let (xs, _, a) = subst (LettersRead listed Any s (x .at) 0 (x .lead .now) (at-read-list .read-list .last .1 .1 .0)) (at-next .next .given .1) (at-read-list .read-list .ensures) in
-    let o = at-match-word .match-word .ensures .whole (at-if1 .if1 .left) in
+    let o = at-match-word .match-word .ensures .whole (a .stands .within) (at-if1 .if1 .left) in
     loop-no xs (a .stands) o (subst (LettersRead listed Some s (at-match-word .match-word .result) 0 (x .cycle .now) (at-read-some .read-some .last .1 .1 .0)) (at-q .q .given .1) (at-read-some .read-some .ensures))
 
 same-length-9 : tie.Need-same-length-9
@@ -211,7 +204,7 @@ returns-6 c =
     let x = start .args in
     let s = x .s .now in
     let (xs, _, a) = subst (LettersRead listed Any s (x .at) 0 (x .lead .now) (at-read-list .read-list .last .1 .1 .0)) (at-next .next .given .1) (at-read-list .read-list .ensures) in
-    let o = at-match-word .match-word .ensures .whole (at-if1 .if1 .left) in
+    let o = at-match-word .match-word .ensures .whole (a .stands .within) (at-if1 .if1 .left) in
     let (ys, h, b) = subst (LettersRead listed Some s (at-match-word .match-word .result) 0 (x .cycle .now) (at-read-some .read-some .last .1 .1 .0)) (at-end .end .given .1) (at-read-some .read-some .ensures) in
     lasso-read a o ys h b (sym (at-byte .byte .ensures .0) ∙ at-if2 .if2 .left) (at-byte .byte .ensures .1 (omega (arith, at-if2 .if2 .left))) (at-if3 .if3 .left) (c .either .result) (c .either .ensures)
 

@@ -8,9 +8,7 @@ use Rattle.trace_lines.proofs.read_letter.Statement.{statement}
 use Rattle.trace_lines.proofs.read_letter.Tie as tie
 
 read-number-requires : tie.Need-read-number-requires
-read-number-requires c κs =
-    let start = c .before .before in
-    start .pre .within
+read-number-requires c κs = search needs
 
 enum-known-p : tie.Need-enum-known-p
 enum-known-p c = search needs
@@ -52,7 +50,7 @@ returns c =
     let x = start .args in
     let s = x .s .now in
     let at = x .at in
-    subst (NumberRead s at 4294967295) (at-p .p .given .1) (at-read-number .read-number .ensures)
+    subst (NumberRead s at 4294967295) (at-p .p .given .1) (at-read-number .read-number .ensures) (start .pre .within)
 
 returns-2 : tie.Need-returns-2
 returns-2 c =

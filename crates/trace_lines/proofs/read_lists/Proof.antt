@@ -21,7 +21,7 @@ read-finite-requires c κs =
     let at-match-word = c .before .before in
     let at-if1 = c .before in
     let start = c .before .before .before .before .before .before .before in
-    record { few = omega arith; within = at-match-word .match-word .ensures .whole (at-if1 .if1 .taken) .within; short = start .pre }
+    record { few = omega arith; within = at-match-word .match-word .ensures .whole (omega arith) (at-if1 .if1 .taken) .within; short = start .pre }
 
 same-length : tie.Need-same-length
 same-length c = search needs
@@ -38,7 +38,7 @@ returns c =
     let m = x .cycle .now in
     let l′ = at-read-finite .read-finite .last .1 .1 .0 in
     let r = at-read-finite .read-finite .result in
-    finite-line s l m l′ m (subst (Stands (text "(finite") s 0) (at-if1 .if1 .taken) (at-match-word .match-word .ensures .whole (at-if1 .if1 .taken))) r
+    finite-line s l m l′ m (subst (Stands (text "(finite") s 0) (at-if1 .if1 .taken) (at-match-word .match-word .ensures .whole (omega arith) (at-if1 .if1 .taken))) r
     (subst (λ (i : ℕ). ListsRead finiteRest s i l m l′ m r) (at-if1 .if1 .taken) (at-read-finite .read-finite .ensures m))
 
 slice-aggregate-match-word-2 : tie.Need-slice-aggregate-match-word-2
@@ -52,7 +52,7 @@ read-lasso-requires c κs =
     let at-match-word2 = c .before .before .before in
     let at-if2 = c .before .before in
     let start = c .before .before .before .before .before .before .before .before .before .before .before in
-    record { few = omega arith; within = at-match-word2 .match-word2 .ensures .whole (at-if2 .if2 .taken) .within; short = start .pre }
+    record { few = omega arith; within = at-match-word2 .match-word2 .ensures .whole (omega arith) (at-if2 .if2 .taken) .within; short = start .pre }
 
 same-length-2 : tie.Need-same-length-2
 same-length-2 c = search needs
@@ -73,7 +73,7 @@ returns-2 c =
     let l′ = at-read-lasso .read-lasso .last .1 .1 .0 in
     let m′ = at-read-lasso .read-lasso .last .1 .1 .1 .0 in
     let r = at-read-lasso .read-lasso .result in
-    lasso-line s l m l′ m′ (subst (Stands (text "(lasso (") s 0) (at-if2 .if2 .taken) (at-match-word2 .match-word2 .ensures .whole (at-if2 .if2 .taken))) r
+    lasso-line s l m l′ m′ (subst (Stands (text "(lasso (") s 0) (at-if2 .if2 .taken) (at-match-word2 .match-word2 .ensures .whole (omega arith) (at-if2 .if2 .taken))) r
     (subst (λ (i : ℕ). ListsRead lassoRest s i l m l′ m′ r) (at-if2 .if2 .taken) (at-read-lasso .read-lasso .ensures))
 
 returns-3 : tie.Need-returns-3
@@ -82,7 +82,7 @@ returns-3 c =
     let at-if1 = c .before .before .before .before in
     let at-match-word2 = c .before .before in
     let at-if2 = c .before in
-    neither-far (at-match-word .match-word .ensures .part (at-if1 .if1 .left)) (at-match-word2 .match-word2 .ensures .part (at-if2 .if2 .left)) (c .if3 .taken)
+    neither-far (at-match-word .match-word .ensures .part (omega arith) (at-if1 .if1 .left)) (at-match-word2 .match-word2 .ensures .part (omega arith) (at-if2 .if2 .left)) (c .if3 .taken)
 
 returns-4 : tie.Need-returns-4
 returns-4 c =
@@ -90,7 +90,7 @@ returns-4 c =
     let at-if1 = c .before .before .before .before in
     let at-match-word2 = c .before .before in
     let at-if2 = c .before in
-    neither-near (at-match-word .match-word .ensures .part (at-if1 .if1 .left)) (at-match-word2 .match-word2 .ensures .part (at-if2 .if2 .left)) (omega (arith, c .if3 .left))
+    neither-near (at-match-word .match-word .ensures .part (omega arith) (at-if1 .if1 .left)) (at-match-word2 .match-word2 .ensures .part (omega arith) (at-if2 .if2 .left)) (omega (arith, c .if3 .left))
 
 pub read-lists-spec : {M : Type 1} → statement M
 read-lists-spec =

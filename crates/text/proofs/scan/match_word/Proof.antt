@@ -1,4 +1,4 @@
--- The loop keeps: the first i bytes of the word stand.
+-- The loop keeps: the first i bytes of the word stand, and the line has as many from the place on: so no place overflows, wherever the reading began.
 use borrow.Author.Needs.{needs}
 use native.Mathlib.Omega.{arith}
 use mathlib.Core.Path.{sym, _∙_}
@@ -10,7 +10,7 @@ use Rattle.text.proofs.scan.match_word.Statement.{statement}
 use Rattle.text.proofs.scan.match_word.Tie as tie
 
 abbrev Inv-loop : tie.InvT-loop
-Inv-loop s at w i₀ i = (i ≤ length w) × Stands (take i w) s at (at + i)
+Inv-loop s at w i₀ i = (i ≤ length w) × (i ≤ length s - at) × (at ≤ length s → Stands (take i w) s at (at + i))
 
 abbrev μ-loop : tie.MeasureT-loop
 μ-loop s at w i₀ i = length w - i
@@ -21,12 +21,10 @@ loop-holds c =
     let s = start .args .s .now in
     let w = start .args .w .now in
     let at = start .args .at in
-    (omega arith, word-none w s at (omega arith))
+    (omega arith, omega arith, word-none w s at)
 
 add-byte : tie.Need-add-byte Inv-loop μ-loop
-add-byte c =
-    let at-loop = c .before in
-    omega (arith, at-loop .loop .inv .1 .within)
+add-byte c = search needs
 
 byte-requires : tie.Need-byte-requires Inv-loop μ-loop
 byte-requires c κs = search needs
@@ -40,9 +38,7 @@ cast-if1 c =
     omega (arith, c .shared-slice-known3 .given (at-loop .loop .i))
 
 add-result : tie.Need-add-result Inv-loop μ-loop
-add-result c =
-    let at-loop = c .before .before .before .before in
-    omega (arith, at-loop .loop .inv .1 .within)
+add-result c = search needs
 
 returns : tie.Need-returns Inv-loop μ-loop
 returns c =
@@ -53,7 +49,7 @@ returns c =
     let s = start .args .s .now in
     let w = start .args .w .now in
     let at = start .args .at in
-    word-part w s at (at-loop .loop .i) (at-loop .loop .inv .1) (at-loop-test .loop-test .taken) (λ e. c .if1 .taken (at-byte .byte .ensures .0 ∙ e))
+    word-part w s at (at-loop .loop .i) (at-loop .loop .inv .2) (at-loop-test .loop-test .taken) (λ e. c .if1 .taken (at-byte .byte .ensures .0 ∙ e))
 
 add-i : tie.Need-add-i Inv-loop μ-loop
 add-i c = search needs
@@ -73,12 +69,10 @@ loop-again c =
     let at = start .args .at in
     let i = at-loop .loop .i in
     let in-s : at + i < length s = at-byte .byte .ensures .1 (omega (arith, c .if1 .left, at-shared-slice-known3 .shared-slice-known3 .given i)) in
-    (omega arith, word-more w s at i (at-loop .loop .inv .1) (at-loop-test .loop-test .taken) in-s (sym (at-byte .byte .ensures .0) ∙ c .if1 .left))
+    (omega arith, omega arith, λ _. word-more w s at i (at-loop .loop .inv .2) (at-loop-test .loop-test .taken) in-s (sym (at-byte .byte .ensures .0) ∙ c .if1 .left))
 
 add-result-2 : tie.Need-add-result-2 Inv-loop μ-loop
-add-result-2 c =
-    let at-loop = c .before in
-    omega (arith, at-loop .loop .inv .1 .within)
+add-result-2 c = search needs
 
 returns-2 : tie.Need-returns-2 Inv-loop μ-loop
 returns-2 c =
@@ -87,7 +81,7 @@ returns-2 c =
     let s = start .args .s .now in
     let w = start .args .w .now in
     let at = start .args .at in
-    word-whole w s at (at-loop .loop .i) (at-loop .loop .inv .1) (omega arith) (omega arith)
+    word-whole w s at (at-loop .loop .i) (at-loop .loop .inv .2) (omega arith) (omega arith)
 
 pub match-word-spec : {M : Type 1} → statement M
 match-word-spec =
