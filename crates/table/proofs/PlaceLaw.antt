@@ -28,7 +28,7 @@ use Rattle.table.specs.Inner.Place.{coded, codedShape, operandOr, bound,
 pub record Decides (p : Place) (u : Use) : Type 0 where
   pub unused : (n : ℕ) → not (eqb (p .limit) 1) || eqb n 0 ≡ unusedFits u n
   pub signal : (n : ℕ) → not (eqb (p .limit) 32) || ltb n 32 ≡ signalFits u n
-  pub operand : (n i : ℕ) → not (p .operand) || ltb n i ≡ operandFits u n i
+  pub operand : (n i : ℕ) → not (eqb (p .limit) 0) || ltb n i ≡ operandFits u n i
   pub sort : (b : Bool) → not (p .operand) || Bool·beq b (p .boolean) ≡ sortFits u b
   pub low : (i : ℕ) → i < 65536 → bitOr (bitAnd i (p .mask)) (p .limit) ≡ bound u i
   pub named : (n : ℕ) → n < 65536 → bitAnd n (p .mask) ≡ operandOr u n 0

@@ -94,6 +94,7 @@ pub fn length_fits(most: usize, n: usize) -> bool
     (n % 3 == 0) & (0 < n / 3) & (n / 3 <= most)
 }
 
+// The limit tells what a place holds: 1 where it is unused, SIGNALS for a signal, 0 for an operand.
 fn unused_fits(p: Place, n: u16) -> bool
     ensures { λ r. ⌜ ((u : Use) → p ≡ coded u → r ≡ unusedFits u n) ⌝ }
 {
@@ -109,7 +110,7 @@ fn signal_fits(p: Place, n: u16) -> bool
 fn operand_fits(p: Place, n: u16, i: u16) -> bool
     ensures { λ r. ⌜ ((u : Use) → p ≡ coded u → r ≡ operandFits u n i) ⌝ }
 {
-    !p.operand | (n < i)
+    (p.limit != 0) | (n < i)
 }
 
 pub fn sort_fits(p: Place, b: bool) -> bool

@@ -1,4 +1,4 @@
--- `operand_fits` tests an operand, and nothing else.
+-- The limit 0 tells an operand.
 use Rattle.table.proofs.PlaceLaw.{decides}
 use Rattle.table.proofs.operand_fits.Statement.{statement}
 use Rattle.table.proofs.operand_fits.Tie as tie
