@@ -32,7 +32,7 @@ use Rattle.verdict.specs.declared.Verdict.the-variants as Verdict
 use Rattle.verdict.proofs.JudgesLaw.{psl-fine, ltl-fine, ltl-empty}
 use Rattle.formula_lines.specs.Spelling.{formulaLine}
 use Rattle.trace_lines.specs.Spelling.{Trace, lineOfTrace}
-use Rattle.formula_lines.specs.Closing.{table}
+use Rattle.psl.specs.Closing.{closingNodes}
 use Rattle.text.specs.Reading.{Takes, Refuses}
 use Rattle.formula_lines.specs.FormulaAnswer.{formulaLimits, FormulaAnswer}
 use Rattle.trace_lines.specs.TraceAnswer.{traceLimits, TraceAnswer}
@@ -41,7 +41,7 @@ use Rattle.trace_lines.specs.declared.TraceLine.the-variants as TraceLine
 use Rattle.text.proofs.ReadingLaw.{takes-by, refuses-by, front-take, front-length}
 use Rattle.formula_lines.proofs.LimitsLaw.{limits-few, limits-accepted, formula-room}
 use Rattle.trace_lines.proofs.LimitsLaw.{limits-short, trace-room}
-use Rattle.formula_lines.proofs.TableLaw.{table-formula}
+use Rattle.psl.proofs.ClosingLaw.{closing-formula}
 use Rattle.answers.specs.Answer.{Tells, LaterAnswer}
 use Rattle.answers.specs.Inner.{TablesOf, Accepted, FirstAnswer}
 use Rattle.answers.specs.declared.First.the-variants as First
@@ -51,9 +51,9 @@ use Rattle.answers.specs.declared.Later.the-variants as Later
 
 pub tables-accepted : {f : Formula} {psl ltl : List ℕ} → TablesOf f psl ltl → Accepted psl ltl
 tables-accepted {f} {psl} {ltl} a =
-    let t = numbersOf (table f) in
+    let t = numbersOf (closingNodes f) in
     let e = limits-accepted f (a .limits) in
-    let g : emitted (formulaOf t) ≡ emitted f = ap emitted (table-formula f) in
+    let g : emitted (formulaOf t) ≡ emitted f = ap emitted (closing-formula f) in
     (ap pslRefusal (a .read) ∙ e, ap ltlRefusal (a .translated ∙ sym g) ∙ emitted-accepted t e (omega (arith, size-most t e)))
 
 -- ── Line 1 ──
@@ -72,14 +72,14 @@ module _ (line l m : List ℕ) (room : length l ≡ 3072) where
     pub first-few : (n ≤ 1024) × (3 * n ≤ length m)
     first-few =
         let few = limits-few f (first-taken .within) in
-        let counted = length-numbers (table f) in
-        (omega (arith, a .2), omega (arith, a .2, ap length (a .3) ∙ front-length (numbersOf (table f)) l (omega arith)))
+        let counted = length-numbers (closingNodes f) in
+        (omega (arith, a .2), omega (arith, a .2, ap length (a .3) ∙ front-length (numbersOf (closingNodes f)) l (omega arith)))
 
-    pub first-table : take (3 * n) m ≡ numbersOf (table f)
-    first-table = ap (take (3 * n)) (a .3) ∙ front-take (numbersOf (table f)) l (3 * n) (omega (arith, a .2, length-numbers (table f)))
+    pub first-table : take (3 * n) m ≡ numbersOf (closingNodes f)
+    first-table = ap (take (3 * n)) (a .3) ∙ front-take (numbersOf (closingNodes f)) l (3 * n) (omega (arith, a .2, length-numbers (closingNodes f)))
 
     stands : formulaOf (take (3 * n) m) ≡ f
-    stands = ap formulaOf first-table ∙ table-formula f
+    stands = ap formulaOf first-table ∙ closing-formula f
 
     accepted : pslRefusal (take (3 * n) m) ≡ none
     accepted = ap pslRefusal first-table ∙ limits-accepted f (first-taken .within)
@@ -158,7 +158,7 @@ module _ (line l m : List ℕ) where
           t,
           taken,
           record {
-            psl = subst (λ (g : Formula). Tells (HoldsOn g (t .lead) (t .loop)) v) (ap formulaOf (s .read) ∙ table-formula f)
+            psl = subst (λ (g : Formula). Tells (HoldsOn g (t .lead) (t .loop)) v) (ap formulaOf (s .read) ∙ closing-formula f)
                 (tells (HoldsOn (formulaOf psl) (t .lead) (t .loop)) v (psl-fine psl (t .lead) (t .loop) ok short) p′);
             ltl = λ h. subst (λ (x : List ℕ). Tells (LtlHoldsOn (treeOf x) (t .lead) (t .loop)) w) (s .translated)
                 (tells (LtlHoldsOn (treeOf ltl) (t .lead) (t .loop)) w (ltl-fine ltl (t .lead) (t .loop) ok′ short h) q′);

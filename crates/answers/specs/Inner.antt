@@ -11,7 +11,7 @@ use Rattle.ltl.specs.Check.{ltlRules, ltlRefusal}
 use Rattle.translate.specs.Emitted.{emitted}
 use Rattle.text.specs.Reading.{Takes, Refuses}
 use Rattle.formula_lines.specs.Spelling.{formulaLine}
-use Rattle.formula_lines.specs.Closing.{table}
+use Rattle.psl.specs.Closing.{closingNodes}
 use Rattle.formula_lines.specs.FormulaAnswer.{formulaLimits}
 use Rattle.answers.specs.declared.First.{First}
 use Rattle.answers.specs.declared.First.the-variants as First
@@ -19,7 +19,7 @@ use Rattle.answers.specs.declared.First.the-variants as First
 -- The PSL and the LTL table of a formula that is within the limits.
 pub record TablesOf (f : Formula) (psl ltl : List ℕ) : Type 0 where
   pub limits : formulaLimits f ≡ none
-  pub read : psl ≡ numbersOf (table f)
+  pub read : psl ≡ numbersOf (closingNodes f)
   pub translated : ltl ≡ emitted f
 
 -- Both tables pass their check.

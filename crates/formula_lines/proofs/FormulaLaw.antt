@@ -10,7 +10,7 @@ use Rattle.logic.specs.Formula.{BoolExpr, btrue, var, bnot, band, Formula, weak
 use Rattle.psl.specs.Table.{Part, boolean, formula, asFormula, partOf}
 use Rattle.text.specs.Text.{text}
 use Rattle.formula_lines.specs.Spelling.{spellB, spell, formulaLine}
-use Rattle.formula_lines.specs.Closing.{nodesB, nodes}
+use Rattle.psl.specs.Closing.{nodesB, nodes}
 use Rattle.formula_lines.specs.Inner.Form.{Form, truth, signal, one, two, keyword, shape, arity, leftSort, rightSort, kinds, Sorted, bytes, closed}
 use Rattle.text.specs.Inner.Words.{elem}
 use Rattle.formula_lines.proofs.FormLaw.{boolean-kinds, formula-kinds, form-unique}

@@ -12,27 +12,27 @@ use Rattle.table.specs.Answer.{refused}
 use Rattle.logic.specs.Formula.{Formula}
 use Rattle.psl.specs.Check.{pslRules, pslRefusal}
 use Rattle.text.proofs.LimitsLaw.{passed, third}
-use Rattle.formula_lines.specs.Closing.{table}
-use Rattle.formula_lines.specs.FormulaAnswer.{largeSignal, formulaLimits, formulaRefusal}
-use Rattle.formula_lines.proofs.AcceptedLaw.{table-accepted}
+use Rattle.psl.specs.Closing.{closingNodes, largeSignal}
+use Rattle.formula_lines.specs.FormulaAnswer.{formulaLimits, formulaRefusal}
+use Rattle.psl.proofs.ClosingCheckLaw.{closing-accepted}
 
 module _ (f : Formula) where
   abbrev few : Bool
-  few = leb (length (table f)) (pslRules .most)
+  few = leb (length (closingNodes f)) (pslRules .most)
 
   abbrev small : Bool
-  small = not (largeSignal (table f))
+  small = not (largeSignal f)
 
-  pub limits-few : formulaLimits f ≡ none → length (table f) ≤ pslRules .most
+  pub limits-few : formulaLimits f ≡ none → length (closingNodes f) ≤ pslRules .most
   unfolding formulaLimits
   limits-few e = leb-true _ _ (passed few small (refused 19) (refused 20) e .0)
 
   -- The table passes the PSL check.
-  pub limits-accepted : formulaLimits f ≡ none → pslRefusal (numbersOf (table f)) ≡ none
+  pub limits-accepted : formulaLimits f ≡ none → pslRefusal (numbersOf (closingNodes f)) ≡ none
   unfolding formulaLimits
-  limits-accepted e = let (p, q) = passed few small (refused 19) (refused 20) e in table-accepted f (leb-true _ _ p) (not-true (largeSignal (table f)) q)
+  limits-accepted e = let (p, q) = passed few small (refused 19) (refused 20) e in closing-accepted f (leb-true _ _ p) (not-true (largeSignal f) q)
 
   pub formula-room : (room : ℕ) → 3 * pslRules .most ≤ room → formulaRefusal room f ≡ formulaLimits f
   unfolding formulaLimits formulaRefusal
   formula-room room h =
-      third few small (leb (3 * length (table f)) room) (refused 19) (refused 20) (refused 23) (λ p q. le-leb (3 * length (table f)) room (omega (arith, leb-true (length (table f)) (pslRules .most) p)))
+      third few small (leb (3 * length (closingNodes f)) room) (refused 19) (refused 20) (refused 23) (λ p q. le-leb (3 * length (closingNodes f)) room (omega (arith, leb-true (length (closingNodes f)) (pslRules .most) p)))

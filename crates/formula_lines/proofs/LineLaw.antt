@@ -1,64 +1,54 @@
 -- What each way out of the reader of a formula line gives, in terms of how formulas are spelled.
 use mathlib.Core.Path.{_≡_, refl, ap, sym, subst, _∙_}
-use mathlib.Core.Bool.{Bool, true, false, _&&_, _||_, or-false, or-assoc}
+use mathlib.Core.Bool.{Bool, true, false}
 use mathlib.Core.Option.{none, some}
 use mathlib.Core.List.{List, [], _∷_, _++_, append-assoc, append-nil, append-cancel-left}
 use Prim.Native.Nat.{ℕ, suc, _+_, _*_, _<_, _≤_}
 use native.Mathlib.Omega.{arith}
-use borrow.Author.Tests.{lt-leb, le-leb, ne-eqb}
+use borrow.Author.Tests.{lt-leb, le-leb}
 use lib.ListN.{length, drop}
 use lib.Seq.{drop-length}
-use lib.Dec.{eqb, leb}
+use lib.Dec.{leb}
 use Rattle.logic.specs.Letter.{signals}
-use Rattle.table.specs.Node.{Node, node, numbersOf, _▸_}
+use Rattle.table.specs.Node.{numbersOf}
 use Rattle.table.proofs.NodeLaw.{length-numbers}
-use Rattle.logic.specs.Formula.{btrue, Formula, weak}
+use Rattle.logic.specs.Formula.{BoolExpr, btrue, var, bnot, band, Formula, weak, strong, fnot, fand, next, until, abort}
 use Rattle.table.specs.Answer.{refused}
+use Rattle.psl.specs.Check.{pslRules}
 use Rattle.text.specs.Text.{text}
 use Rattle.formula_lines.specs.Spelling.{spell, formulaLine}
-use Rattle.formula_lines.specs.Closing.{table}
+use Rattle.psl.specs.Closing.{closingNodes, largeSignalB, largeSignal}
 use Rattle.text.specs.Limits.{mostBytes}
 use Rattle.text.specs.Reading.{long, breaks, spells}
-use Rattle.formula_lines.specs.FormulaAnswer.{largeSignal, formulaLimits, formulaRefusal, FormulaAnswer}
+use Rattle.formula_lines.specs.FormulaAnswer.{formulaLimits, formulaRefusal, FormulaAnswer}
 use Rattle.text.specs.Inner.Places.{byteAt, Stands, Agree, Begins, Stops, StopsLine}
-use Rattle.formula_lines.specs.Inner.Form.{Form, truth, signal, one, two, arity, Sorted, bytes, closed, wide}
+use Rattle.formula_lines.specs.Inner.Form.{Form, Sorted, bytes, closed, wide}
 use Rattle.formula_lines.specs.Inner.Reader.{FormOf, filled, FormStands, SpellsFormula, WholeStands, WholeRead}
 use Rattle.formula_lines.specs.declared.FormulaLine.the-variants.{Nodes, Refused}
 use Rattle.formula_lines.specs.declared.Read.{Read}
 use Rattle.formula_lines.specs.declared.Read.the-variants.{Found, FaultAt}
 use Rattle.text.proofs.PlaceLaw.{agree-self, stands-one, stands-join, stops-here, halts-first, begins-first, halts-after, stops-line, Nothing, stops-end}
 use Rattle.text.proofs.ReadingLaw.{breaks-at, front-sets}
-use Rattle.formula_lines.proofs.FormLaw.{var-arity}
-use Rattle.formula_lines.proofs.FormulaLaw.{form, form-sorted, form-bytes, form-nodes, as-formula, spell-unique, line-unique, formula-injective}
+use Rattle.formula_lines.proofs.FormulaLaw.{boolForm, form, form-sorted, form-bytes, form-nodes, as-formula, spell-unique, line-unique, formula-injective}
 
 -- ── Signals ──
 
-over : Node → Bool
-over (node k l r) = eqb k 1 && leb signals l
+wide-bool : (b : BoolExpr) → wide (boolForm b) ≡ largeSignalB b
+unfolding wide largeSignalB
+wide-bool btrue = refl
+wide-bool (var k) = refl
+wide-bool (bnot b) = wide-bool b
+wide-bool (band b c) = rw (wide-bool b, wide-bool c)
 
-large-more : (ns : List Node) (n : Node) → largeSignal (ns ▸ n) ≡ (largeSignal ns || over n)
-unfolding over
-large-more [] (node k l r) = or-false _
-large-more (node k l r ∷ ns) n = ap (λ (b : Bool). (eqb k 1 && leb signals l) || b) (large-more ns n) ∙ sym (or-assoc (eqb k 1 && leb signals l) (largeSignal ns) (over n))
-
--- The node of a form with operands is no variable.
-large-same : (ns : List Node) (k a b : ℕ) → (arity k ≡ 0 → ⊥) → largeSignal (ns ▸ node k a b) ≡ largeSignal ns
-unfolding over
-large-same ns k a b z =
-    large-more ns (node k a b)
-    ∙ ap (λ (c : Bool). largeSignal ns || (c && leb signals a)) (ne-eqb k 1 (λ e. z (ap arity e ∙ var-arity)))
-    ∙ or-false (largeSignal ns)
-
-pub closed-large : (f : Form) (so : ℕ) → Sorted so f → (ns : List Node) → largeSignal (closed f ns) ≡ (largeSignal ns || wide f)
-unfolding closed wide over
-closed-large truth so h ns = large-more ns (node 0 0 0)
-closed-large (signal n) so h ns = large-more ns (node 1 n 0)
-closed-large (one k f) so (m, a, h) ns = large-same (closed f ns) k _ 0 (λ e. omega arith) ∙ closed-large f _ h ns
-closed-large (two k f g) so (m, a, h, i) ns =
-    large-same (closed g (closed f ns)) k _ _ (λ e. omega arith)
-    ∙ closed-large g _ i (closed f ns)
-    ∙ ap (λ (b : Bool). b || wide g) (closed-large f _ h ns)
-    ∙ or-assoc (largeSignal ns) (wide f) (wide g)
+wide-large : (f : Formula) → wide (form f) ≡ largeSignal f
+unfolding wide largeSignal
+wide-large (weak b) = wide-bool b
+wide-large (strong b) = wide-bool b
+wide-large (fnot f) = wide-large f
+wide-large (fand f g) = rw (wide-large f, wide-large g)
+wide-large (next f) = wide-large f
+wide-large (until f g) = rw (wide-large f, wide-large g)
+wide-large (abort f b) = rw (wide-large f, wide-bool b)
 
 -- ── The parts of the line ──
 
@@ -127,12 +117,12 @@ module _ {s : List ℕ} (o : Psl s) where
           is = line .is ∙ ap (λ (x : List ℕ). formulaLine g ++ x) (ap (λ (j : ℕ). drop j s) z ∙ drop-length s) ∙ append-nil (formulaLine g);
           counted = sym (a .counted [] refl) ∙ ap length nodes-of;
           few = omega (arith, a .few);
-          signals = a .signals ∙ sym (closed-large f 1 sf []) ∙ ap largeSignal nodes-of;
+          signals = a .signals ∙ ap wide (sym same) ∙ wide-large g;
           written = λ x. a .written x l [] refl refl ∙ ap (filled l) nodes-of;
         },
       )
         where
-          nodes-of : closed f [] ≡ table g
+          nodes-of : closed f [] ≡ closingNodes g
           nodes-of = ap (λ (x : Form). closed x []) (sym same) ∙ form-nodes g []
 
 -- ── The answer ──
@@ -148,13 +138,13 @@ module _ {s : List ℕ} (l : List ℕ) {f : Formula} {nodes : ℕ} {large : Bool
   refuses : (e : ℕ) → formulaRefusal (length l) f ≡ some (refused e) → FormulaAnswer s l (Refused (refused e)) l
   refuses e d = (record { reading = spells h f (x .is); reason = d }, refl)
 
-  pub many-nodes : 1024 < nodes → FormulaAnswer s l (Refused (refused 19)) l
+  pub many-nodes : pslRules .most < nodes → FormulaAnswer s l (Refused (refused 19)) l
   unfolding formulaLimits formulaRefusal
-  many-nodes i = refuses 19 (rw (lt-leb (length (table f)) 1024 (omega (arith, x .counted))))
+  many-nodes i = refuses 19 (rw (lt-leb (length (closingNodes f)) (pslRules .most) (omega (arith, x .counted))))
 
-  module _ (i : nodes ≤ 1024) where
-    few : leb (length (table f)) 1024 ≡ true
-    few = le-leb (length (table f)) 1024 (omega (arith, x .counted))
+  module _ (i : nodes ≤ pslRules .most) where
+    few : leb (length (closingNodes f)) (pslRules .most) ≡ true
+    few = le-leb (length (closingNodes f)) (pslRules .most) (omega (arith, x .counted))
 
     pub large-signal : large ≡ true → FormulaAnswer s l (Refused (refused 20)) l
     unfolding formulaLimits formulaRefusal
@@ -163,24 +153,24 @@ module _ {s : List ℕ} (l : List ℕ) {f : Formula} {nodes : ℕ} {large : Bool
     module _ (j : large ≡ false) where
       pub no-room : length l < 3 * nodes → FormulaAnswer s l (Refused (refused 23)) l
       unfolding formulaLimits formulaRefusal
-      no-room k = refuses 23 (rw (few, sym (x .signals) ∙ j, lt-leb (3 * length (table f)) (length l) (omega (arith, x .counted))))
+      no-room k = refuses 23 (rw (few, sym (x .signals) ∙ j, lt-leb (3 * length (closingNodes f)) (length l) (omega (arith, x .counted))))
 
       module _ (k : 3 * nodes ≤ length l) where
         room : formulaRefusal (length l) f ≡ none
         unfolding formulaLimits formulaRefusal
-        room = rw (few, sym (x .signals) ∙ j, le-leb (3 * length (table f)) (length l) (omega (arith, x .counted)))
+        room = rw (few, sym (x .signals) ∙ j, le-leb (3 * length (closingNodes f)) (length l) (omega (arith, x .counted)))
 
         pub table-read : (m : List ℕ) (r : Read) → WholeRead s l m r → FormulaAnswer s l (Nodes nodes) m
         table-read m r y = (
           f,
           record { short = h; is = x .is; within = room },
           x .counted,
-          go r y ∙ front-sets (numbersOf (table f)) l (omega (arith, x .counted, length-numbers (table f))),
+          go r y ∙ front-sets (numbersOf (closingNodes f)) l (omega (arith, x .counted, length-numbers (closingNodes f))),
         )
           where
-            go : (r : Read) → WholeRead s l m r → m ≡ filled l (table f)
+            go : (r : Read) → WholeRead s l m r → m ≡ filled l (closingNodes f)
             go (FaultAt p) z = absurd (z .none s (agree-self (suc p) s) (f, x .is))
-            go (Found next n w) (g, z) =
+            go (Found end n w) (g, z) =
                 let d = formula-injective f g (sym (x .is) ∙ z .is) in
-                z .written (z .signals ∙ ap (λ (u : Formula). largeSignal (table u)) (sym d) ∙ sym (x .signals) ∙ j)
-                ∙ ap (λ (u : Formula). filled l (table u)) (sym d)
+                z .written (z .signals ∙ ap largeSignal (sym d) ∙ sym (x .signals) ∙ j)
+                ∙ ap (λ (u : Formula). filled l (closingNodes u)) (sym d)

@@ -5,18 +5,16 @@ use mathlib.Core.List.{List}
 use Prim.Native.Nat.{ℕ}
 use Rattle.table.specs.Node.{numbersOf}
 use Rattle.logic.specs.Formula.{Formula}
-use Rattle.psl.specs.Table.{formulaOf}
 use Rattle.psl.specs.Check.{pslRefusal}
 use Rattle.formula_lines.specs.Spelling.{formulaLine}
-use Rattle.formula_lines.specs.Closing.{table}
+use Rattle.psl.specs.Closing.{closingNodes}
 use Rattle.formula_lines.specs.FormulaAnswer.{formulaLimits, FormulaAnswer}
 use Rattle.formula_lines.specs.declared.FormulaLine.{FormulaLine}
 
 pub record Claims : Type 1 where
   -- No two formulas have one line.
   pub one-formula : (f g : Formula) → formulaLine f ≡ formulaLine g → f ≡ g
-  -- The table of a formula stands for that formula, and within the limits it passes the PSL check.
-  pub stands-for : (f : Formula) → formulaOf (numbersOf (table f)) ≡ f
-  pub accepted : (f : Formula) → formulaLimits f ≡ none → pslRefusal (numbersOf (table f)) ≡ none
+  -- Within the limits the closing table of a formula passes the PSL check.
+  pub accepted : (f : Formula) → formulaLimits f ≡ none → pslRefusal (numbersOf (closingNodes f)) ≡ none
   -- The reader has one answer, and leaves one content in the lent list.
   pub formula-answer : (s l : List ℕ) (r r′ : FormulaLine) (m m′ : List ℕ) → FormulaAnswer s l r m → FormulaAnswer s l r′ m′ → (r ≡ r′) × (m ≡ m′)

@@ -19,7 +19,6 @@ ghost use Rattle.formula_lines.specs.FormulaAnswer.{FormulaAnswer};
 ghost use Rattle.formula_lines.specs.Inner.Reader.{InBrackets, KeywordRead, FormRead, OperandsRead, WholeRead};
 
 // The most nodes of a PSL table, and the largest signal.
-const MOST_NODES: usize = 1024;
 
 const LARGEST_SIGNAL: u64 = SIGNALS as u64 - 1;
 
@@ -317,7 +316,7 @@ pub fn read_formula(line: &[u8], out: &mut [u16]) -> FormulaLine
     match read_whole(line, &mut none) {
         Read::FaultAt(p) => FormulaLine::Refused(Refusal(18)),
         Read::Found { next, nodes, large } => {
-            if MOST_NODES < nodes {
+            if psl::MOST_NODES < nodes {
                 return FormulaLine::Refused(Refusal(19));
             }
             if large {

@@ -1,5 +1,6 @@
 pub mod Size
 pub mod Table
+pub mod Closing
 pub mod Check
 pub mod Answer
 pub mod Claims

@@ -11,8 +11,7 @@ use Rattle.table.specs.Node.{Node, numbersOf}
 use Rattle.logic.specs.Formula.{Formula}
 use Rattle.text.specs.Text.{text}
 use Rattle.formula_lines.specs.Spelling.{formulaLine}
-use Rattle.formula_lines.specs.Closing.{table}
-use Rattle.formula_lines.specs.FormulaAnswer.{largeSignal}
+use Rattle.psl.specs.Closing.{closingNodes, largeSignal}
 use Rattle.text.specs.Inner.Places.{Language, Begins, Stands, Halts, Stops, StopsLine}
 use Rattle.text.specs.Inner.Number.{NoDigit}
 use Rattle.formula_lines.specs.Inner.Form.{Form, truth, signal, one, two, keyword, kinds, Sorted, OfKind, bytes, inner, closed, wide}
@@ -97,10 +96,10 @@ SpellsFormula w = (f : Formula) × (w ≡ formulaLine f)
 
 pub record WholeStands (f : Formula) (s : List ℕ) (nodes : ℕ) (large : Bool) (l l′ : List ℕ) : Type 0 where
   pub is : s ≡ formulaLine f
-  pub counted : nodes ≡ length (table f)
+  pub counted : nodes ≡ length (closingNodes f)
   pub few : nodes ≤ length s
-  pub signals : large ≡ largeSignal (table f)
-  pub written : large ≡ false → l′ ≡ filled l (table f)
+  pub signals : large ≡ largeSignal f
+  pub written : large ≡ false → l′ ≡ filled l (closingNodes f)
 
 abbrev pub WholeRead : List ℕ → List ℕ → List ℕ → Read → Type 0
 WholeRead s l l′ (Read.Found next nodes large) = (f : Formula) × WholeStands f s nodes large l l′

@@ -1,33 +1,27 @@
--- The table that a formula line gives passes the PSL check: each form closes after its operands, and is the operand of one form, but for the
+-- A closing table passes the PSL check: each node is named once, by the node that closes next around it.
 -- last.
 use mathlib.Core.Path.{_≡_, refl, ap, sym, subst, _∙_}
-use mathlib.Core.Bool.{Bool, true, false, cond, Bool·beq}
+use mathlib.Core.Bool.{Bool, true, false, Bool·beq}
 use mathlib.Core.List.{List, []}
 use mathlib.Core.Option.{none}
-use Prim.Native.Nat.{ℕ, zero, suc, _+_, _-_, _<_, _≤_}
+use Prim.Native.Nat.{ℕ, _+_, _-_, _<_, _≤_}
 use native.Mathlib.Omega.{arith}
 use native.Mathlib.Numerals.{add-one}
 use native.Mathlib.Decide.{decLt, ℕ-discrete}
 use borrow.Author.Tests.{eq-eqb, ne-eqb, lt-ltb, le-ltb, leb-false}
 use lib.ListN.{length}
-use lib.Dec.{T, eqb, ltb}
+use lib.Dec.{eqb, ltb}
 use Rattle.logic.specs.Letter.{signals}
 use Rattle.table.specs.Node.{Node, node, numbersOf, count, _▸_, last}
 use Rattle.table.specs.Check.{Use, operand, unused, shapeOf, isBoolean, tableRefusal}
 use Rattle.table.proofs.NodeLaw.{length-more}
 use Rattle.table.proofs.CheckLaw.{either-false, Fits, none-refused}
 use Rattle.table.proofs.PassesLaw.{nodeOf, node-old, node-new, isBool, Passes, PassFrom, pass-join, pass-more, count-numbers, node-numbers, sort-numbers, nodes-pass}
-use Rattle.logic.specs.Formula.{Formula}
-use Rattle.psl.specs.Check.{pslRules, one as oneIf, names, namesAt, uses, useRefusal, pslRefusal, total}
+use Rattle.logic.specs.Formula.{BoolExpr, btrue, var, bnot, band, Formula, weak, strong, fnot, fand, next, until, abort}
+use Rattle.psl.specs.Closing.{nodesB, nodes, closingNodes, largeSignalB, largeSignal}
+use Rattle.psl.specs.Check.{booleanKinds, pslRules, one as oneIf, names, namesAt, uses, useRefusal, pslRefusal, total}
 use Rattle.psl.proofs.SumLaw.{total-same}
 use Rattle.psl.proofs.CheckLaw.{root-fine, psl-then}
-use Rattle.formula_lines.specs.Closing.{table}
-use Rattle.formula_lines.specs.FormulaAnswer.{largeSignal}
-use Rattle.formula_lines.specs.Inner.Form.{Form, truth, signal, one, two, shape, arity, leftSort, rightSort, kinds, Sorted, closed, wide}
-use Rattle.text.specs.Inner.Words.{elem}
-use Rattle.formula_lines.proofs.FormLaw.{boolean-kinds, formula-kinds}
-use Rattle.formula_lines.proofs.FormulaLaw.{form, form-sorted, form-nodes}
-use Rattle.formula_lines.proofs.LineLaw.{closed-large}
 
 -- ── Uses ──
 
@@ -102,35 +96,7 @@ grown-more {ns} {ms} x g e a = record { longer = omega (arith, g .longer, length
           ap (λ (n : ℕ). under n j) (length-more ms x),
         )
 
--- ── Forms ──
-
-abbrev sorted : ℕ → Bool
-sorted zero = true
-sorted (suc so) = false
-
--- What the check knows of a kind of a sort.
-record KindShape (so k : ℕ) : Type 0 where
-  low : k < 11
-  sort : ltb k 4 ≡ sorted so
-  left : shapeOf pslRules k .0 ≡ operand (sorted (leftSort k))
-  right : shapeOf pslRules k .1 ≡ cond (eqb (arity k) 2) (operand (sorted (rightSort k))) unused
-
-kind-shape : (so k : ℕ) → T (elem k (kinds so)) → (arity k ≡ 0 → ⊥) → KindShape so k
-unfolding shape
-kind-shape zero =
-    boolean-kinds (λ k. (arity k ≡ 0 → ⊥) → KindShape 0 k)
-    (λ z. absurd (z refl))
-    (λ _. record { low = omega arith; sort = refl; left = refl; right = refl })
-    (λ _. record { low = omega arith; sort = refl; left = refl; right = refl })
-kind-shape (suc so) =
-    formula-kinds (λ k. (arity k ≡ 0 → ⊥) → KindShape (suc so) k)
-    (λ _. record { low = omega arith; sort = refl; left = refl; right = refl })
-    (λ _. record { low = omega arith; sort = refl; left = refl; right = refl })
-    (λ _. record { low = omega arith; sort = refl; left = refl; right = refl })
-    (λ _. record { low = omega arith; sort = refl; left = refl; right = refl })
-    (λ _. record { low = omega arith; sort = refl; left = refl; right = refl })
-    (λ _. record { low = omega arith; sort = refl; left = refl; right = refl })
-    (λ _. record { low = omega arith; sort = refl; left = refl; right = refl })
+-- ── The nodes of a formula ──
 
 -- A place for an operand of a sort, and one that is unused.
 module _ {u : Use} {b : Bool} (e : u ≡ operand b) where
@@ -151,15 +117,16 @@ module _ {u : Use} (e : u ≡ unused) where
   fits-unused : {i : ℕ} {c : Bool} → Fits pslRules u 0 i c
   fits-unused = rw e record { low = omega arith; sort = refl }
 
-record Built (ns ms : List Node) (so : ℕ) : Type 0 where
+-- The nodes of a part were added; its own is the last, and a Boolean or not.
+record Built (ns ms : List Node) (c : Bool) : Type 0 where
   more : length ns < length ms
   grown : Grown ns ms (λ j. oneIf (eqb (last ms) j))
-  sort : isBool pslRules (nodeOf ms (last ms)) ≡ sorted so
+  sort : isBool pslRules (nodeOf ms (last ms)) ≡ c
 
 -- A node that names the roots of its operands.
-build : {ns ms : List Node} {o : ℕ → ℕ} (k l r so : ℕ) → Grown ns ms o → ((j : ℕ) → naming (node k l r) j ≡ o j) → Passes pslRules ms (length ms) (node k l r)
-    → ltb k 4 ≡ sorted so → Built ns (ms ▸ node k l r) so
-build {ns} {ms} k l r so g e a s =
+build : {ns ms : List Node} {o : ℕ → ℕ} (k l r : ℕ) → Grown ns ms o → ((j : ℕ) → naming (node k l r) j ≡ o j) → Passes pslRules ms (length ms) (node k l r)
+    → {c : Bool} → ltb k booleanKinds ≡ c → Built ns (ms ▸ node k l r) c
+build {ns} {ms} k l r g e a s =
     let x = node k l r in
     let z : length ms ≡ last (ms ▸ x) = omega (arith, length-more ms x) in
     record {
@@ -168,38 +135,54 @@ build {ns} {ms} k l r so g e a s =
       sort = ap (λ (n : ℕ). isBool pslRules (nodeOf (ms ▸ x) n)) (sym z) ∙ ap (isBool pslRules) (node-new ms x) ∙ s;
     }
 
-built : (f : Form) (so : ℕ) → Sorted so f → wide f ≡ false → (ns : List Node) → Built ns (closed f ns) so
-unfolding closed wide
-built truth so h w ns = build 0 0 0 so (grown-none ns) (λ j. refl) (omega arith, fits-unused refl, fits-unused refl) (rw (h) refl)
-built (signal n) so h w ns =
+-- A kind of one operand, and one of two.
+module _ (k : ℕ) (low : k < length (pslRules .kinds)) {b : Bool} (left : shapeOf pslRules k .0 ≡ operand b) {c : Bool} (sort : ltb k booleanKinds ≡ c) where
+  one-built : shapeOf pslRules k .1 ≡ unused → {ns ms : List Node} → Built ns ms b → Built ns (ms ▸ node k (last ms) 0) c
+  one-built right {ns} {ms} x =
+      build k (last ms) 0 (x .grown)
+      (λ j. omega (arith, named-once left (last ms) j, named-never right 0 j))
+      (low, fits-operand left (x .sort) (omega (arith, x .more)), fits-unused right)
+      sort
+
+  two-built : {d : Bool} → shapeOf pslRules k .1 ≡ operand d → {ns ms ps : List Node} → Built ns ms b → Built ms ps d
+      → Built ns (ps ▸ node k (last ms) (last ps)) c
+  two-built right {ns} {ms} {ps} x y =
+      let left-sort = ap (isBool pslRules) (y .grown .kept (last ms) (omega (arith, x .more))) ∙ x .sort in
+      build k (last ms) (last ps) (grown-both (x .grown) (y .grown))
+      (λ j. omega (arith, named-once left (last ms) j, named-once right (last ps) j))
+      (low, fits-operand left left-sort (omega (arith, x .more, y .more)), fits-operand right (y .sort) (omega (arith, y .more)))
+      sort
+
+builtB : (b : BoolExpr) → largeSignalB b ≡ false → (ns : List Node) → Built ns (nodesB b ns) true
+unfolding nodesB largeSignalB
+builtB btrue w ns = build 0 0 0 (grown-none ns) (λ j. refl) (omega arith, fits-unused refl, fits-unused refl) refl
+builtB (var n) w ns =
     let l : n < signals = leb-false signals n w in
-    build 1 n 0 so (grown-none ns) (λ j. refl) (omega arith, record { low = l; sort = refl }, fits-unused refl) (rw (h) refl)
-built (one k f) so (m, a, h) w ns =
-    let ms = closed f ns in
-    let b = built f (leftSort k) h w ns in
-    let s = kind-shape so k m (λ z. omega arith) in
-    let r : shapeOf pslRules k .1 ≡ unused = s .right ∙ rw a refl in
-    build k (last ms) 0 so (b .grown)
-    (λ j. omega (arith, named-once (s .left) (last ms) j, named-never r 0 j))
-    (s .low, fits-operand (s .left) (b .sort) (omega (arith, b .more)), fits-unused r)
-    (s .sort)
-built (two k f g) so (m, a, h, i) w ns =
-    let ms = closed f ns in
-    let ps = closed g ms in
-    let v = either-false (wide f) (wide g) w in
-    let b = built f (leftSort k) h (v .0) ns in
-    let c = built g (rightSort k) i (v .1) ms in
-    let s = kind-shape so k m (λ z. omega arith) in
-    let r : shapeOf pslRules k .1 ≡ operand (sorted (rightSort k)) = s .right ∙ rw a refl in
-    let left-sort = ap (isBool pslRules) (c .grown .kept (last ms) (omega (arith, b .more))) ∙ b .sort in
-    build k (last ms) (last ps) so (grown-both (b .grown) (c .grown))
-    (λ j. omega (arith, named-once (s .left) (last ms) j, named-once r (last ps) j))
-    (s .low, fits-operand (s .left) left-sort (omega (arith, b .more, c .more)), fits-operand r (c .sort) (omega (arith, c .more)))
-    (s .sort)
+    build 1 n 0 (grown-none ns) (λ j. refl) (omega arith, record { low = l; sort = refl }, fits-unused refl) refl
+builtB (bnot b) w ns = one-built 2 (omega arith) refl refl refl (builtB b w ns)
+builtB (band b c) w ns =
+    let (p, q) = either-false (largeSignalB b) (largeSignalB c) w in
+    two-built 3 (omega arith) refl refl refl (builtB b p ns) (builtB c q (nodesB b ns))
+
+built : (f : Formula) → largeSignal f ≡ false → (ns : List Node) → Built ns (nodes f ns) false
+unfolding nodes largeSignal
+built (weak b) w ns = one-built 4 (omega arith) refl refl refl (builtB b w ns)
+built (strong b) w ns = one-built 5 (omega arith) refl refl refl (builtB b w ns)
+built (fnot f) w ns = one-built 6 (omega arith) refl refl refl (built f w ns)
+built (fand f g) w ns =
+    let (p, q) = either-false (largeSignal f) (largeSignal g) w in
+    two-built 7 (omega arith) refl refl refl (built f p ns) (built g q (nodes f ns))
+built (next f) w ns = one-built 8 (omega arith) refl refl refl (built f w ns)
+built (until f g) w ns =
+    let (p, q) = either-false (largeSignal f) (largeSignal g) w in
+    two-built 9 (omega arith) refl refl refl (built f p ns) (built g q (nodes f ns))
+built (abort f b) w ns =
+    let (p, q) = either-false (largeSignal f) (largeSignalB b) w in
+    two-built 10 (omega arith) refl refl refl (built f p ns) (builtB b q (nodes f ns))
 
 -- ── The check ──
 
-module _ (ms : List Node) (b : Built [] ms 1) (few : length ms ≤ pslRules .most) where
+module _ (ms : List Node) (b : Built [] ms false) (few : length ms ≤ pslRules .most) where
   abbrev t : List ℕ
   t = numbersOf ms
 
@@ -233,8 +216,6 @@ module _ (ms : List Node) (b : Built [] ms 1) (few : length ms ≤ pslRules .mos
   fine : pslRefusal t ≡ none
   fine = psl-then t nodes-fine ∙ root-fine t (count t - 1) refl (none-refused (useRefusal t) (count t - 1) uses-fine) root-formula
 
--- The table that a formula line gives is accepted by the PSL check.
-pub table-accepted : (f : Formula) → length (table f) ≤ pslRules .most → largeSignal (table f) ≡ false → pslRefusal (numbersOf (table f)) ≡ none
-table-accepted f h l =
-    let narrow = sym (closed-large (form f) 1 (form-sorted f) []) ∙ ap largeSignal (form-nodes f []) ∙ l in
-    fine (table f) (subst (λ (ms : List Node). Built [] ms 1) (form-nodes f []) (built (form f) 1 (form-sorted f) narrow [])) h
+-- A formula's closing table is accepted, within the limits.
+pub closing-accepted : (f : Formula) → length (closingNodes f) ≤ pslRules .most → largeSignal f ≡ false → pslRefusal (numbersOf (closingNodes f)) ≡ none
+closing-accepted f h l = fine (closingNodes f) (built f l []) h

@@ -1,5 +1,8 @@
--- The PSL table of a formula: its nodes in the order in which their forms close.
+-- The closing table of a formula: its nodes in the order in which their forms close when the formula is written.
+use mathlib.Core.Bool.{Bool, false, _||_}
 use mathlib.Core.List.{List, []}
+use lib.Dec.{leb}
+use Rattle.logic.specs.Letter.{signals}
 use Rattle.table.specs.Node.{Node, node, _▸_, last}
 use Rattle.logic.specs.Formula.{BoolExpr, btrue, var, bnot, band, Formula, weak, strong, fnot, fand, next, until, abort}
 
@@ -19,6 +22,22 @@ nodes (next f) ns = let ms = nodes f ns in ms ▸ node 8 (last ms) 0
 nodes (until f g) ns = let ms = nodes f ns in let ps = nodes g ms in ps ▸ node 9 (last ms) (last ps)
 nodes (abort f b) ns = let ms = nodes f ns in let ps = nodesB b ms in ps ▸ node 10 (last ms) (last ps)
 
--- The nodes of a formula's table.
-abbrev pub table : Formula → List Node
-table f = nodes f []
+-- The nodes of a formula's closing table.
+abbrev pub closingNodes : Formula → List Node
+closingNodes f = nodes f []
+
+-- Some variable's signal is not below `signals`.
+unfoldable pub largeSignalB : BoolExpr → Bool
+largeSignalB btrue = false
+largeSignalB (var k) = leb signals k
+largeSignalB (bnot b) = largeSignalB b
+largeSignalB (band b c) = largeSignalB b || largeSignalB c
+
+unfoldable pub largeSignal : Formula → Bool
+largeSignal (weak b) = largeSignalB b
+largeSignal (strong b) = largeSignalB b
+largeSignal (fnot f) = largeSignal f
+largeSignal (fand f g) = largeSignal f || largeSignal g
+largeSignal (next f) = largeSignal f
+largeSignal (until f g) = largeSignal f || largeSignal g
+largeSignal (abort f b) = largeSignal f || largeSignalB b

@@ -1,4 +1,4 @@
--- The table that a formula line gives stands for that formula: each form's node, when it closes, has the form's value.
+-- A formula's closing table stands for that formula: each node has the value of what it closes.
 use mathlib.Core.Path.{_≡_, refl, ap, _∙_}
 use mathlib.Core.List.{List, []}
 use Prim.Native.Nat.{ℕ, _-_}
@@ -6,8 +6,8 @@ use native.Mathlib.Omega.{arith}
 use Rattle.table.specs.Node.{Node, node, numbersOf, _▸_, last, look, grow}
 use Rattle.table.proofs.NodeLaw.{nodes-numbers, Grown, grown-one, grown-join, length-grow}
 use Rattle.logic.specs.Formula.{BoolExpr, btrue, var, bnot, band, Formula, weak, strong, fnot, fand, next, until, abort}
 use Rattle.psl.specs.Table.{Part, boolean, formula, asFormula, partOf, formulaOf}
-use Rattle.formula_lines.specs.Closing.{nodesB, nodes, table}
+use Rattle.psl.specs.Closing.{nodesB, nodes, closingNodes}
 
 abbrev none : Part
 none = boolean btrue
@@ -52,10 +52,10 @@ grown (abort f b) ns =
     let ms = nodes f ns in
     two-more ns ms (nodesB b ms) 10 (formula f) (boolean b) (formula (abort f b)) (grown f ns) (grownB b ms) (λ z e d. rw (e, d))
 
-pub table-formula : (f : Formula) → formulaOf (numbersOf (table f)) ≡ f
+pub closing-formula : (f : Formula) → formulaOf (numbersOf (closingNodes f)) ≡ f
 unfolding formulaOf
-table-formula f =
-    let ns = table f in
+closing-formula f =
+    let ns = closingNodes f in
     let xs = grow none partOf [] ns in
     ap (λ (ms : List Node). asFormula (look none partOf (grow none partOf [] ms) (last (grow none partOf [] ms)))) (nodes-numbers ns)
     ∙ ap (λ (n : ℕ). asFormula (look none partOf xs n)) (ap (λ (n : ℕ). n - 1) (length-grow none partOf [] ns ∙ omega arith))
