@@ -7,7 +7,7 @@ use native.Mathlib.Decide.{decLt}
 use native.Mathlib.Numerals.{add-one}
 use lib.ListN.{length, getD, set, take, drop, take-append-drop, drop-of-length-le}
 use lib.Seq.{sets, length-sets, set-out, take-suc, length-take-le}
-use Rattle.text.proofs.StoreLaw.{sets-sets}
+use Rattle.table.proofs.StoreLaw.{sets-sets}
 
 -- The first i letters of the part stand in the list that was l.
 pub record Copied (part l out : List ℕ) (i : ℕ) : Type 0 where

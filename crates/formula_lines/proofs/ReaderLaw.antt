@@ -22,15 +22,11 @@ use Rattle.text.specs.Inner.Words.{elem}
 use Rattle.formula_lines.specs.Inner.Reader.{KeywordOf, InBrackets, FormOf, OperandsOf, filled, FormStands, Ended, OperandsStand}
 use Rattle.text.proofs.PlaceLaw.{agree-byte, byte-drop, stands-one, stands-join, stops-here, halts-first, begins-first, halts-after}
 use Rattle.text.proofs.ScanLaw.{no-digit-agree}
-use Rattle.text.proofs.StoreLaw.{sets-sets}
+use Rattle.table.proofs.StoreLaw.{sets-sets, numbers-more}
 use Rattle.formula_lines.proofs.FormLaw.{View, view, kind-fact, kind-sorted, kind-bytes, none-of, one-of, two-of, form-unique, operands-unique, sample, sample-sorted, sample-open, kind-sample, open-bytes, word-kind, var-arity}
 use Rattle.table.proofs.CheckLaw.{either-false}
 
 -- ── The lent list ──
-
-numbers-more : (ns : List Node) (k a b : ℕ) → numbersOf (ns ▸ node k a b) ≡ numbersOf ns ++ (k ∷ a ∷ b ∷ [])
-numbers-more [] k a b = refl
-numbers-more (node i c d ∷ ns) k a b = ap (λ (l : List ℕ). i ∷ c ∷ d ∷ l) (numbers-more ns k a b)
 
 filled-more : (l : List ℕ) (ns : List Node) (n k a b : ℕ) → length ns ≡ n → sets (filled l ns) (3 * n) (k ∷ a ∷ b ∷ []) ≡ filled l (ns ▸ node k a b)
 filled-more l ns n k a b e =
@@ -115,12 +111,12 @@ module _ (s : List ℕ) (at n next v : ℕ) (l : List ℕ) (h : n ≤ at) (a : N
             ∙ ap (λ (i : ℕ). sets (filled l₀ ns) (3 * n) (1 ∷ i ∷ 0 ∷ [])) (c x) ∙ filled-more l₀ ns n 1 v 0 e;
       }
 
-  pub signal-small : v ≤ 31 → (f : Form) × OfKind 1 f × OperandsStand f s at n next n 1 v 0 false l l
-  signal-small g = (signal v, refl, signal-stands v false (sym (lt-leb 32 v (omega arith))) (λ _. refl))
+  pub signal-small : v < signals → (f : Form) × OfKind 1 f × OperandsStand f s at n next n 1 v 0 false l l
+  signal-small g = (signal v, refl, signal-stands v false (sym (lt-leb signals v (omega arith))) (λ _. refl))
 
-  pub signal-large : 31 < v → (f : Form) × OfKind 1 f × OperandsStand f s at n next n 1 0 0 true l l
+  pub signal-large : signals ≤ v → (f : Form) × OfKind 1 f × OperandsStand f s at n next n 1 0 0 true l l
   signal-large g =
-      (signal v, refl, signal-stands 0 true (sym (le-leb 32 v (omega arith))) (λ e. let z : _≡_ {A = ℕ} 0 1 = cc e in absurd (omega arith)))
+      (signal v, refl, signal-stands 0 true (sym (le-leb signals v (omega arith))) (λ e. let z : _≡_ {A = ℕ} 0 1 = cc e in absurd (omega arith)))
 
 -- ── A form in brackets ──
 

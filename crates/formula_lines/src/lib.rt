@@ -18,8 +18,7 @@ ghost use Rattle.text.specs.Limits.{mostBytes};
 ghost use Rattle.formula_lines.specs.FormulaAnswer.{FormulaAnswer};
 ghost use Rattle.formula_lines.specs.Inner.Reader.{InBrackets, KeywordRead, FormRead, OperandsRead, WholeRead};
 
-// The most nodes of a PSL table, and the largest signal.
-
+// The largest signal.
 const LARGEST_SIGNAL: u64 = SIGNALS as u64 - 1;
 
 // A number at a place, nothing past the end.

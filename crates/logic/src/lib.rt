@@ -5,6 +5,8 @@ ghost use Rattle.logic.specs.Letter.{bit};
 // A letter: signal k holds where bit k is set.
 pub type Letter = u32;
 
+pub const LARGEST_LETTER: Letter = u32::MAX;
+
 // How many signals there are.
 pub const SIGNALS: u16 = 32;
 

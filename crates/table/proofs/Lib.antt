@@ -4,3 +4,4 @@ pub mod PlaceLaw
 pub mod PassesLaw
 pub mod KindLaw
 pub mod ValueLaw
+pub mod StoreLaw

@@ -1,5 +1,4 @@
 -- Laws that the proofs share.
-pub mod StoreLaw
 pub mod LimitsLaw
 pub mod PlaceLaw
 pub mod ReadingLaw

@@ -11,7 +11,7 @@ use lib.ListN.{length, getD, take, length-append}
 use lib.Seq.{sets, set-out, length-sets, sets-eq, take-at, take-suc, take-all}
 use Rattle.text.specs.Spelling.{digits}
 use Rattle.text.specs.Inner.Writer.{Wrote, pair}
-use Rattle.text.proofs.StoreLaw.{sets-sets}
+use Rattle.table.proofs.StoreLaw.{sets-sets}
 use Rattle.text.proofs.NumberLaw.{digits-small, digits-more}
 
 -- ── Room ──

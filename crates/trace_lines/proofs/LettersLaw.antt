@@ -20,7 +20,7 @@ use Rattle.trace_lines.specs.declared.Letters.the-variants.{Found, Fault
 use Rattle.text.proofs.PlaceLaw.{agree-byte, byte-drop, stands-one, stands-join, halts-first, halts-after}
 use Rattle.text.proofs.NumberLaw.{digits-unique, digits-first, ending-no-digit, ending-unique}
 use Rattle.text.proofs.ScanLaw.{no-digit-agree}
-use Rattle.text.proofs.StoreLaw.{sets-sets}
+use Rattle.table.proofs.StoreLaw.{sets-sets}
 use Rattle.table.proofs.CheckLaw.{either-false}
 
 abbrev Further : Language
@@ -29,10 +29,10 @@ Further = Spelled further Any
 -- ── A letter ──
 
 module _ {s : List ℕ} {at n next x : ℕ} (a : NumberStands x s at next) where
-  pub letter-small : x ≤ 4294967295 → {l l′ : List ℕ} → l′ ≡ set l n x → LetterStands x s at n next (n + 1) false l l′
+  pub letter-small : x < 2 ^ signals → {l l′ : List ℕ} → l′ ≡ set l n x → LetterStands x s at n next (n + 1) false l l′
   letter-small h e = record { stands = a; counted = refl; wide = sym (lt-leb (2 ^ signals) x (omega arith)); written = λ _. e }
 
-  pub letter-large : 4294967295 < x → (l : List ℕ) → LetterStands x s at n next (n + 1) true l l
+  pub letter-large : 2 ^ signals ≤ x → (l : List ℕ) → LetterStands x s at n next (n + 1) true l l
   letter-large h l =
       record {
         stands = a;

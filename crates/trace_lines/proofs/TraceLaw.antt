@@ -21,7 +21,7 @@ use Rattle.trace_lines.specs.declared.Lists.{Lists}
 use Rattle.trace_lines.specs.declared.Lists.the-variants.{Found, FaultAt}
 use Rattle.trace_lines.specs.declared.TraceLine.the-variants.{Letters, Refused}
 use Rattle.text.proofs.ReadingLaw.{breaks-at, front-sets}
-use Rattle.text.proofs.StoreLaw.{and-false}
+use Rattle.table.proofs.StoreLaw.{and-false}
 use Rattle.text.proofs.PlaceLaw.{agree-self, agree-less, stands-one, stands-join, stops-here, halts-first, halts-after, stops-line, Nothing, stops-end}
 use Rattle.text.proofs.NumberLaw.{ending-unique}
 use Rattle.trace_lines.proofs.LettersLaw.{list-unique}

@@ -1,4 +1,5 @@
 // Trace lines: `(finite N N)` or `(lasso (N N) (N N))`.
+use logic::LARGEST_LETTER;
 use logic::Letter;
 use text::numbers::Number;
 use text::numbers::read_number;
@@ -6,6 +7,7 @@ use text::scan;
 use text::scan::byte;
 use text::scan::either;
 use text::scan::match_word;
+use trace::MOST_LETTERS;
 use trace::Refusal;
 ghost use mathlib.Core.Path.{_≡_};
 ghost use mathlib.Core.List.{List};
@@ -16,10 +18,8 @@ ghost use Rattle.trace_lines.specs.TraceAnswer.{TraceAnswer};
 ghost use Rattle.text.specs.Inner.Places.{CursorIn};
 ghost use Rattle.trace_lines.specs.Inner.LettersReader.{LetterRead, LettersRead, further, listed, Any, Some, ListsRead, finiteRest, lassoRest, wholeLine};
 
-// The largest letter, and the most letters of a trace.
-const LARGEST_LETTER: u64 = u32::MAX as u64;
-
-const MOST_LETTERS: usize = 64;
+// The largest number that is a letter.
+const LARGEST: u64 = LARGEST_LETTER as u64;
 
 // A letter at a place, nothing past the end.
 fn put_letter(out: &mut [Letter], at: usize, v: Letter)
@@ -45,7 +45,7 @@ fn read_letter(s: &[u8], at: usize, out: &mut [Letter], n: usize) -> Letters
     requires { ⌜ CursorIn (now s) at n ⌝ }
     ensures { λ r. ⌜ LetterRead (now (s .entry)) at n (now (out .entry)) (now (out .exit)) r ⌝ }
 {
-    match read_number(s, at, LARGEST_LETTER) {
+    match read_number(s, at, LARGEST) {
         Number::FaultAt(p) => Letters::FaultAt(p),
         Number::Large(next) => Letters::Found {
             next,

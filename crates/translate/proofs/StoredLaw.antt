@@ -1,23 +1,15 @@
 -- A node stored behind those that are there.
 use mathlib.Core.Path.{_≡_, refl, sym, ap, subst, _∙_}
-use mathlib.Core.List.{List, [], _∷_, _++_}
+use mathlib.Core.List.{List, [], _∷_}
 use Prim.Native.Nat.{ℕ, suc, _+_, _*_, _-_}
 use native.Mathlib.Omega.{arith}
 use lib.ListN.{length, set}
 use lib.Seq.{sets}
 use Rattle.table.specs.Node.{Node, node, numbersOf, _▸_, last}
 use Rattle.table.proofs.NodeLaw.{length-numbers, length-more}
+use Rattle.table.proofs.StoreLaw.{sets-sets, numbers-more}
 use Rattle.translate.specs.Emitted.{andN, orN, gate}
 use Rattle.translate.specs.Inner.Stored.{Stored, Walks}
-
-sets-append : {A : Type 0} (l : List A) (i : ℕ) (xs ys : List A) → sets l i (xs ++ ys) ≡ sets (sets l i xs) (i + length xs) ys
-sets-append l i [] ys = ap (λ (k : ℕ). sets l k ys) (omega arith)
-sets-append l i (x ∷ xs) ys =
-    sets-append (set l i x) (suc i) xs ys ∙ ap (λ (k : ℕ). sets (sets (set l i x) (suc i) xs) k ys) (omega arith)
-
-numbers-more : (ns : List Node) (k l r : ℕ) → numbersOf (ns ▸ node k l r) ≡ numbersOf ns ++ k ∷ l ∷ r ∷ []
-numbers-more [] k l r = refl
-numbers-more (node k′ l′ r′ ∷ ns) k l r = ap (λ (xs : List ℕ). k′ ∷ l′ ∷ r′ ∷ xs) (numbers-more ns k l r)
 
 -- Three stores at node n, where n nodes are stored.
 pub walks-node : (k x y n : ℕ) {old one two now : List ℕ} → one ≡ set old (3 * n) k → two ≡ set one (3 * n + 1) x → now ≡ set two (3 * n + 2) y
@@ -34,8 +26,7 @@ walks-node k x y n {old} {one} {two} {now} a b c = record { next = refl; stores 
     go l ns h =
         let at : 0 + length (numbersOf ns) ≡ 3 * n = omega (arith, length-numbers ns, h .count) in
         let e : sets l 0 (numbersOf (ns ▸ node k x y)) ≡ sets old (3 * n) (k ∷ x ∷ y ∷ []) =
-        ap (sets l 0) (numbers-more ns k x y) ∙ sets-append l 0 (numbersOf ns) (k ∷ x ∷ y ∷ [])
-        ∙ ap (λ (i : ℕ). sets (sets l 0 (numbersOf ns)) i (k ∷ x ∷ y ∷ [])) at
+        ap (sets l 0) (numbers-more ns k x y) ∙ sym (sets-sets (numbersOf ns) (k ∷ x ∷ y ∷ []) l 0 (3 * n) at)
         ∙ ap (λ (m : List ℕ). sets m (3 * n) (k ∷ x ∷ y ∷ [])) (sym (h .is)) in
         record { count = omega (arith, length-more ns (node k x y), h .count); is = sym (e ∙ same) }
 

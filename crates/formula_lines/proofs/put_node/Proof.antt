@@ -1,7 +1,7 @@
 -- Three stores in a row.
 use borrow.Author.Needs.{needs}
 use Prim.Native.Nat.{_*_}
-use Rattle.text.proofs.StoreLaw.{three}
+use Rattle.table.proofs.StoreLaw.{three}
 use Rattle.formula_lines.proofs.put_node.Statement.{statement}
 use Rattle.formula_lines.proofs.put_node.Tie as tie
 

@@ -2,6 +2,8 @@
 use borrow.Author.Needs.{needs}
 use native.Mathlib.Omega.{arith}
 use mathlib.Core.Path.{subst}
+use Prim.Native.Nat.{_-_}
+use Rattle.logic.specs.Letter.{signals}
 use Rattle.text.specs.Inner.Scan.{NumberRead}
 use Rattle.formula_lines.proofs.ReaderLaw.{signal-no, signal-small, signal-large}
 use Rattle.formula_lines.proofs.read_signal.Statement.{statement}
@@ -29,7 +31,7 @@ cast-t10 c =
     let at = x .at in
     let r = at-read-number .read-number in
     let g = at-value .value .given in
-    omega (arith, subst (NumberRead s at 31) (g .1) (r .ensures) .0)
+    omega (arith, subst (NumberRead s at (signals - 1)) (g .1) (r .ensures) .0)
 
 returns : tie.Need-returns
 returns c =
@@ -41,7 +43,7 @@ returns c =
     let at = x .at in
     let r = at-read-number .read-number in
     let g = at-p .p .given in
-    λ l. signal-no (subst (NumberRead s at 31) (g .1) (r .ensures) (start .pre .within))
+    λ l. signal-no (subst (NumberRead s at (signals - 1)) (g .1) (r .ensures) (start .pre .within))
 
 returns-2 : tie.Need-returns-2
 returns-2 c =
@@ -53,7 +55,7 @@ returns-2 c =
     let at = x .at in
     let r = at-read-number .read-number in
     let g = at-next .next .given in
-    let (v, h, a) = subst (NumberRead s at 31) (g .1) (r .ensures) in
+    let (v, h, a) = subst (NumberRead s at (signals - 1)) (g .1) (r .ensures) in
     λ l. signal-large s at (x .n) (g .0 .0) v l (start .pre .few) a h
 
 returns-3 : tie.Need-returns-3
@@ -66,8 +68,8 @@ returns-3 c =
     let at = x .at in
     let r = at-read-number .read-number in
     let g = at-value .value .given in
-    let (h, a) = subst (NumberRead s at 31) (g .1) (r .ensures) in
-    λ l. signal-small s at (x .n) (g .0 .1 .0) (g .0 .0) l (start .pre .few) a h
+    let (h, a) = subst (NumberRead s at (signals - 1)) (g .1) (r .ensures) in
+    λ l. signal-small s at (x .n) (g .0 .1 .0) (g .0 .0) l (start .pre .few) a (omega (arith, h))
 
 pub read-signal-spec : {M : Type 1} → statement M
 read-signal-spec =

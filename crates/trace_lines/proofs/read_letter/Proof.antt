@@ -5,6 +5,8 @@ use mathlib.Core.Path.{subst}
 use Rattle.text.specs.Inner.Scan.{NumberRead}
 use Rattle.trace_lines.proofs.LettersLaw.{letter-small, letter-large}
 use Rattle.trace_lines.proofs.read_letter.Statement.{statement}
+use Prim.Native.Nat.{_-_, _^_}
+use Rattle.logic.specs.Letter.{signals}
 use Rattle.trace_lines.proofs.read_letter.Tie as tie
 
 read-number-requires : tie.Need-read-number-requires
@@ -32,7 +34,7 @@ cast-put-letter c =
     let x = start .args in
     let s = x .s .now in
     let at = x .at in
-    omega (arith, subst (NumberRead s at 4294967295) (at-value .value .given .1) (at-read-number .read-number .ensures) .0)
+    omega (arith, subst (NumberRead s at (2 ^ signals - 1)) (at-value .value .given .1) (at-read-number .read-number .ensures) .0)
 
 put-letter-requires : tie.Need-put-letter-requires
 put-letter-requires c κs = search needs
@@ -50,7 +52,7 @@ returns c =
     let x = start .args in
     let s = x .s .now in
     let at = x .at in
-    subst (NumberRead s at 4294967295) (at-p .p .given .1) (at-read-number .read-number .ensures) (start .pre .within)
+    subst (NumberRead s at (2 ^ signals - 1)) (at-p .p .given .1) (at-read-number .read-number .ensures) (start .pre .within)
 
 returns-2 : tie.Need-returns-2
 returns-2 c =
@@ -60,8 +62,8 @@ returns-2 c =
     let x = start .args in
     let s = x .s .now in
     let at = x .at in
-    let (v, h, a) = subst (NumberRead s at 4294967295) (at-next .next .given .1) (at-read-number .read-number .ensures) in
-    (v, letter-large a h (x .out .now))
+    let (v, h, a) = subst (NumberRead s at (2 ^ signals - 1)) (at-next .next .given .1) (at-read-number .read-number .ensures) in
+    (v, letter-large a (omega (arith, h)) (x .out .now))
 
 same-length : tie.Need-same-length
 same-length c = search needs
@@ -75,8 +77,8 @@ returns-3 c =
     let x = start .args in
     let s = x .s .now in
     let at = x .at in
-    let (h, a) = subst (NumberRead s at 4294967295) (at-value .value .given .1) (at-read-number .read-number .ensures) in
-    (at-value .value .given .0 .0, letter-small a h (at-put-letter .put-letter .ensures))
+    let (h, a) = subst (NumberRead s at (2 ^ signals - 1)) (at-value .value .given .1) (at-read-number .read-number .ensures) in
+    (at-value .value .given .0 .0, letter-small a (omega (arith, h)) (at-put-letter .put-letter .ensures))
 
 pub read-letter-spec : {M : Type 1} → statement M
 read-letter-spec =

@@ -6,6 +6,7 @@ use Prim.Native.Nat.{ℕ, suc, _+_}
 use native.Mathlib.Omega.{arith}
 use lib.ListN.{length, set}
 use lib.Seq.{sets}
+use Rattle.table.specs.Node.{Node, node, numbersOf, _▸_}
 
 pub and-false : (a b : Bool) → b ≡ false → (a && b) ≡ false
 and-false true b e = e
@@ -22,3 +23,8 @@ three l l1 l2 l3 i a b c e f g =
     let p : i + 1 ≡ suc i = omega arith in
     let q : i + 2 ≡ suc (suc i) = omega arith in
     g ∙ simp (f, e, p, q)
+
+-- A node more is three numbers more.
+pub numbers-more : (ns : List Node) (k l r : ℕ) → numbersOf (ns ▸ node k l r) ≡ numbersOf ns ++ k ∷ l ∷ r ∷ []
+numbers-more [] k l r = refl
+numbers-more (node k′ l′ r′ ∷ ns) k l r = ap (λ (xs : List ℕ). k′ ∷ l′ ∷ r′ ∷ xs) (numbers-more ns k l r)
