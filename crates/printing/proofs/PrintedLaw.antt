@@ -7,6 +7,7 @@ use native.Mathlib.Numerals.{add-one}
 use lib.ListN.{length, getD, length-append}
 use Rattle.trace.specs.declared.Refusal.{Refusal}
 use Rattle.table.specs.Node.{count, kindAt, leftAt, rightAt, nodeAt}
+use Rattle.ltl.specs.Check.{ltlRules}
 use Rattle.verdict.specs.declared.Verdict.{Verdict}
 use Rattle.verdict.specs.declared.Verdict.the-variants as Verdict
 use Rattle.text.specs.Text.{text}
@@ -17,6 +18,7 @@ use Rattle.text.proofs.NumberLaw.{digits-short}
 use Rattle.text.proofs.WriterLaw.{wrote-join, wrote-none}
 use Rattle.node_lines.proofs.WriterLaw.{line-length}
 use Rattle.printing.specs.Printed.{refusedText, verdictText, traceText, nodeLines, tableText}
+use Rattle.printing.specs.Limits.{longest, shortest, longestVerdict}
 
 refused-bytes : (line : ℕ) (x : Refusal) → refusedText line x ≡ text "(refused " ++ (digits line ++ (text " " ++ (digits (x .0) ++ text ")\n")))
 unfolding refusedText
@@ -27,12 +29,12 @@ pub refused-wrote : {l₀ l₁ l₂ l₃ l₄ l₅ : List ℕ} {at a b c d e : �
 refused-wrote {l₀} {l₅ = l₅} {at = at} {e = e} line x p q r s t =
     subst (λ (w : List ℕ). Wrote w l₀ l₅ at e) (sym (refused-bytes line x)) (wrote-join p (wrote-join q (wrote-join r (wrote-join s t))))
 
-pub refused-short : (line : ℕ) (x : Refusal) → line < 18446744073709551616 → x .0 < 256 → length (refusedText line x) ≤ 60
+pub refused-short : (line : ℕ) (x : Refusal) → line < 18446744073709551616 → x .0 < 256 → length (refusedText line x) ≤ shortest
 refused-short line x h g =
-    subst (λ (w : List ℕ). length w ≤ 60) (sym (refused-bytes line x))
+    subst (λ (w : List ℕ). length w ≤ shortest) (sym (refused-bytes line x))
     (simp length-append (omega (arith, digits-short 19 line (omega arith), digits-short 2 (x .0) (omega arith))))
 
-pub verdict-short : (v : Verdict) → length (verdictText v) ≤ 4
+pub verdict-short : (v : Verdict) → length (verdictText v) ≤ longestVerdict
 unfolding verdictText
 verdict-short Verdict.Yes = omega arith
 verdict-short Verdict.No = omega arith
@@ -50,9 +52,9 @@ trace-wrote {l₀} {l₇ = l₇} {at = at} {g = g} i v w p q r s t u z =
     subst (λ (y : List ℕ). Wrote y l₀ l₇ at g) (sym (trace-bytes i v w))
     (wrote-join p (wrote-join q (wrote-join r (wrote-join s (wrote-join t (wrote-join u z))))))
 
-pub trace-short : (i : ℕ) (v w : Verdict) → i < 18446744073709551616 → length (traceText i v w) ≤ 60
+pub trace-short : (i : ℕ) (v w : Verdict) → i < 18446744073709551616 → length (traceText i v w) ≤ shortest
 trace-short i v w h =
-    subst (λ (y : List ℕ). length y ≤ 60) (sym (trace-bytes i v w))
+    subst (λ (y : List ℕ). length y ≤ shortest) (sym (trace-bytes i v w))
     (simp length-append (omega (arith, digits-short 19 i (omega arith), verdict-short v, verdict-short w)))
 
 -- ── Tables ──
@@ -84,6 +86,6 @@ module _ (t : List ℕ) (small : (i : ℕ) → getD t i 0 < 65536) where
       let one = line-length k (kindAt t k) (leftAt t k) (rightAt t k) (omega arith) (small (3 * k + 1)) (small (3 * k + 2)) in
       omega (arith, length-append (nodeLines t k) (nodeLine k (nodeAt t k)), lines-short k (omega arith), one)
 
-  pub table-short : length t ≤ 12288 → length (tableText t) ≤ 107000
+  pub table-short : length t ≤ 3 * ltlRules .most → length (tableText t) ≤ longest
   unfolding tableText
   table-short h = simp length-append (omega (arith, digits-short 3 (count t) (omega arith), lines-short (count t) (omega arith)))

@@ -4,14 +4,16 @@ use text::put::put_number;
 use text::put::put_text;
 use trace::Refusal;
 use verdict::Verdict;
-ghost use Prim.Native.Nat.{_+_, _≤_};
+ghost use Prim.Native.Nat.{_+_, _*_, _≤_};
 ghost use lib.ListN.{length};
+ghost use Rattle.ltl.specs.Check.{ltlRules};
 ghost use Rattle.text.specs.Inner.Writer.{Wrote};
 ghost use Rattle.printing.specs.Printed.{refusedText, verdictText, traceText, tableText};
+ghost use Rattle.printing.specs.Limits.{longest, shortest, longestVerdict};
 
 // `(refused L R)`
 pub fn put_refused(out: &mut [u8], at: usize, line: u64, x: Refusal) -> usize
-    ensures { λ r. ⌜ Wrote (refusedText line x) (now (out .entry)) (now (out .exit)) at r × (r ≤ at + 60) ⌝ }
+    ensures { λ r. ⌜ Wrote (refusedText line x) (now (out .entry)) (now (out .exit)) at r × (r ≤ at + shortest) ⌝ }
 {
     let a = put_text(out, at, b"(refused ");
     let b = put_number(out, a, line);
@@ -21,7 +23,7 @@ pub fn put_refused(out: &mut [u8], at: usize, line: u64, x: Refusal) -> usize
 }
 
 fn put_verdict(out: &mut [u8], at: usize, v: Verdict) -> usize
-    ensures { λ r. ⌜ Wrote (verdictText v) (now (out .entry)) (now (out .exit)) at r × (r ≤ at + 4) ⌝ }
+    ensures { λ r. ⌜ Wrote (verdictText v) (now (out .entry)) (now (out .exit)) at r × (r ≤ at + longestVerdict) ⌝ }
 {
     match v {
         Verdict::Yes => put_text(out, at, b"yes"),
@@ -32,7 +34,7 @@ fn put_verdict(out: &mut [u8], at: usize, v: Verdict) -> usize
 
 // `(trace I psl V ltl W)`
 pub fn put_trace(out: &mut [u8], at: usize, trace: u64, psl: Verdict, ltl: Verdict) -> usize
-    ensures { λ r. ⌜ Wrote (traceText trace psl ltl) (now (out .entry)) (now (out .exit)) at r × (r ≤ at + 60) ⌝ }
+    ensures { λ r. ⌜ Wrote (traceText trace psl ltl) (now (out .entry)) (now (out .exit)) at r × (r ≤ at + shortest) ⌝ }
 {
     let a = put_text(out, at, b"(trace ");
     let b = put_number(out, a, trace);
@@ -43,10 +45,9 @@ pub fn put_trace(out: &mut [u8], at: usize, trace: u64, psl: Verdict, ltl: Verdi
     put_text(out, f, b")\n")
 }
 
-// `(ltl S)` and the node lines of an LTL table.
+// `(ltl S)` and the node lines of an LTL table, where it has no more nodes than a table may have.
 pub fn put_table(out: &mut [u8], at: usize, t: &[u16]) -> usize
-    requires { ⌜ length (now t) ≤ 12288 ⌝ }
-    ensures { λ r. ⌜ Wrote (tableText (now (t .entry))) (now (out .entry)) (now (out .exit)) at r × (r ≤ at + 107000) ⌝ }
+    ensures { λ r. ⌜ (length (now (t .entry)) ≤ 3 * ltlRules .most → Wrote (tableText (now (t .entry))) (now (out .entry)) (now (out .exit)) at r × (r ≤ at + longest)) ⌝ }
 {
     let nodes = t.len() / 3;
     let a = put_text(out, at, b"(ltl ");

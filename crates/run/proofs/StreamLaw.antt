@@ -15,10 +15,11 @@ use Rattle.logic.specs.Formula.{Formula}
 use Rattle.verdict.specs.declared.Verdict.{Verdict}
 use Rattle.text.specs.Inner.Writer.{Wrote}
 use Rattle.printing.specs.Printed.{refusedText, traceText, tableText}
+use Rattle.printing.specs.Limits.{longest, shortest}
 use Rattle.answers.specs.Answer.{LaterAnswer}
 use Rattle.run.specs.Whole.{Runs}
 use Rattle.answers.specs.Inner.{TablesOf, FirstAnswer}
-use Rattle.run.specs.Inner.{Going, At, longest, shortest, mostBlock, Within, Gathered, Remembers, FirstDone, LaterDone, LineDone, Keeps, Fed, Finished, Ends, Advanced, start, Turns, no-turn, one-turn, idle}
+use Rattle.run.specs.Inner.{Going, At, mostBlock, mostGathered, Within, Gathered, Remembers, FirstDone, LaterDone, LineDone, Keeps, Fed, Finished, Ends, Advanced, start, Turns, no-turn, one-turn, idle}
 use Rattle.answers.specs.declared.First.{First}
 use Rattle.answers.specs.declared.First.the-variants as First
 use Rattle.answers.specs.declared.Later.{Later}
@@ -54,7 +55,7 @@ abbrev pub begun : ℕ → ℕ → ℕ → Bool → State
 begun n z g m = record { number = 2; filled = 0; nodes = n; size = z; gathered = g; more = m; failed = false }
 
 module _ (line out out′ psl ltl : List ℕ) (a : First) (answers : FirstAnswer line a psl ltl) (g : ℕ) where
-  pub first-refused : (x : Refusal) → a ≡ First.Refused x → Wrote (refusedText 1 x) out out′ 0 g → g ≤ 60 → FirstDone line out (begun 0 0 g false) psl ltl out′
+  pub first-refused : (x : Refusal) → a ≡ First.Refused x → Wrote (refusedText 1 x) out out′ 0 g → g ≤ shortest → FirstDone line out (begun 0 0 g false) psl ltl out′
   first-refused x e w h =
       record {
         answer = First.Refused x;
@@ -83,7 +84,7 @@ module _ (line out out′ psl ltl : List ℕ) (a : First) (answers : FirstAnswer
 pub first-few : (line psl ltl : List ℕ) (a : First) (n z : ℕ) → FirstAnswer line a psl ltl → a ≡ First.Tables n z → (n ≤ 1024) × (z ≤ 4096)
 first-few line psl ltl a n z h e = let (_, _, _, p, q) = subst (λ (y : First). FirstAnswer line y psl ltl) e h in (p, q)
 
-module _ {line psl ltl out out′ : List ℕ} (a : Later) (answers : (f : Formula) → TablesOf f psl ltl → LaterAnswer f line a) (number at next : ℕ) (h : next ≤ at + 60) where
+module _ {line psl ltl out out′ : List ℕ} (a : Later) (answers : (f : Formula) → TablesOf f psl ltl → LaterAnswer f line a) (number at next : ℕ) (h : next ≤ at + shortest) where
   pub later-refused : (x : Refusal) → 0 < number → a ≡ Later.Refused x → Wrote (refusedText number x) out out′ at next → LaterDone line psl ltl out number at out′ next
   later-refused x pos e w =
       let same : number ≡ suc (number - 1) = omega arith in
@@ -108,7 +109,7 @@ first-stored line psl ltl (First.Tables i j) (f, _, t, p, q) r (m, n, z) = (omeg
 abbrev pub onward : State → ℕ → State
 onward s g = record { number = s .number + 1; filled = 0; nodes = s .nodes; size = s .size; gathered = g; more = true; failed = false }
 
-module _ {line psl ltl out : List ℕ} (s : State) (w : Within s line psl ltl out) (few : s .gathered ≤ 1090040) where
+module _ {line psl ltl out : List ℕ} (s : State) (w : Within s line psl ltl out) (few : s .gathered ≤ mostGathered) where
   pub line-first : {psl′ ltl′ out′ : List ℕ} (r : State) → s .number ≤ 1 → s .gathered ≡ 0 → length psl′ ≡ length psl → length ltl′ ≡ length ltl → length out′ ≡ length out
       → FirstDone (take (s .filled) line) out r psl′ ltl′ out′ → LineDone line psl ltl out s r psl′ ltl′ out′
   line-first {psl′} {ltl′} r h none p q o d =

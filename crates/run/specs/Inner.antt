@@ -16,6 +16,7 @@ use Rattle.formula_lines.specs.FormulaAnswer.{formulaLimits}
 use Rattle.text.specs.Inner.Writer.{Wrote}
 use Rattle.run.specs.Input.{endedLines, openLine}
 use Rattle.printing.specs.Printed.{refusedText, tableText}
+use Rattle.printing.specs.Limits.{longest, shortest}
 use Rattle.answers.specs.Answer.{LaterAnswer}
 use Rattle.answers.specs.Inner.{TablesOf, FirstAnswer}
 use Rattle.run.specs.Whole.{laterText, PrintsTraces, Runs}
@@ -49,13 +50,6 @@ pub record At (read out : List ℕ) (s : State) (line psl ltl : List ℕ) : Type
   pub over : s .more ≡ false → (rest : List ℕ) → Runs (read ++ rest) out
 
 -- ── Bounds ──
-
--- No answer prints more bytes, and none but that to line 1 more than `shortest`.
-abbrev pub longest : ℕ
-longest = 107000
-
-abbrev pub shortest : ℕ
-shortest = 60
 
 -- The most bytes of a block of input, and those that it can gather.
 abbrev pub mostBlock : ℕ

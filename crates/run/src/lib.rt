@@ -10,8 +10,9 @@ ghost use mathlib.Core.Path.{_≡_};
 ghost use mathlib.Core.Bool.{true};
 ghost use Prim.Native.Nat.{_+_, _<_, _≤_};
 ghost use lib.ListN.{length};
+ghost use Rattle.printing.specs.Limits.{longest, shortest};
 ghost use Rattle.answers.specs.Inner.{Accepted};
-ghost use Rattle.run.specs.Inner.{longest, mostBlock, mostGathered, mostLines, Within, Gathered, FirstDone, LaterDone, LineDone, Keeps, Fed, Finished, Advanced};
+ghost use Rattle.run.specs.Inner.{mostBlock, mostGathered, mostLines, Within, Gathered, FirstDone, LaterDone, LineDone, Keeps, Fed, Finished, Advanced};
 
 // What a run is made of between two bytes.
 pub struct State {
@@ -67,7 +68,7 @@ fn answer_later(
     number: u64,
     gathered: usize,
 ) -> usize
-    requires { ⌜ (0 < number) × (gathered + 60 < length (now out)) × Accepted (now psl) (now ltl) ⌝ }
+    requires { ⌜ (0 < number) × (gathered + shortest < length (now out)) × Accepted (now psl) (now ltl) ⌝ }
     ensures { λ r. ⌜ LaterDone (now (line .entry)) (now (psl .entry)) (now (ltl .entry)) (now (out .entry)) number gathered (now (out .exit)) r ⌝ }
 {
     match later_line(line, psl, ltl) {

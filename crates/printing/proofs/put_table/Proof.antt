@@ -1,8 +1,9 @@
 -- The head, then a line a node.
 use mathlib.Core.Path.{_≡_, refl}
 use native.Mathlib.Omega.{arith}
-use Prim.Native.Nat.{_≤_, _-_, _%_}
+use Prim.Native.Nat.{_*_, _-_, _%_, _≤_}
 use lib.ListN.{length}
+use Rattle.ltl.specs.Check.{ltlRules}
 use Rattle.text.specs.Inner.Writer.{Wrote}
 use Rattle.text.proofs.WriterLaw.{wrote-end}
 use Rattle.printing.specs.Printed.{nodeLines}
@@ -12,7 +13,7 @@ use Rattle.printing.proofs.put_table.Statement.{statement}
 use Rattle.printing.proofs.put_table.Tie as tie
 
 abbrev Inv-loop : tie.InvT-loop
-Inv-loop out₀ at t nodes a b to₀ i₀ out to i = (i ≤ nodes) × (length out ≡ length out₀) × Wrote (nodeLines t i) out₀ out to₀ to
+Inv-loop out₀ at t nodes a b to₀ i₀ out to i = (i ≤ nodes) × (length out ≡ length out₀) × (length t ≤ 3 * ltlRules .most → Wrote (nodeLines t i) out₀ out to₀ to)
 
 abbrev μ-loop : tie.MeasureT-loop
 μ-loop out₀ at t nodes a b to₀ i₀ out to i = nodes - i
@@ -35,7 +36,7 @@ put-text-requires-2 c κs = search needs
 loop-holds : tie.Need-loop-holds Inv-loop μ-loop
 loop-holds c =
     let x = c .before .before .before .before .before .before .before .before .before .before .before .before .before .before .before .before .args in
-    (omega arith, refl, no-lines (x .t .now))
+    (omega arith, refl, λ _. no-lines (x .t .now))
 
 cast-put-line : tie.Need-cast-put-line Inv-loop μ-loop
 cast-put-line c = search needs
@@ -86,9 +87,8 @@ loop-again : tie.Need-loop-again Inv-loop μ-loop
 loop-again c =
     let x = c .before .before .before .before .before .before .before .before .before .before .before .before .before .before .before .before .before .before .before .before .before .before .before .before .before .args in
     let at-loop = c .before .before .before .before .before .before .before .before .loop in
-    let at-pre = c .before .before .before .before .before .before .before .before .before .before .before .before .before .before .before .before .before .before .before .before .before .before .before .before .before .pre in
     let at-put-line = c .before .before .put-line in
-    (omega arith, search needs, line-more (x .t .now) (at-loop .i) (at-loop .i % 65536) (omega (arith, at-pre)) (at-loop .inv .2) (at-put-line .ensures))
+    (omega arith, search needs, λ few. line-more (x .t .now) (at-loop .i) (at-loop .i % 65536) (omega (arith, few)) (at-loop .inv .2 few) (at-put-line .ensures))
 
 same-length : tie.Need-same-length Inv-loop μ-loop
 same-length c = search needs
@@ -101,10 +101,10 @@ returns c =
     let at-put-text = c .before .before .before .before .before .before .before .before .before .before .before .before .before .put-text in
     let at-put-number = c .before .before .before .before .before .before .before .before .before .put-number in
     let at-put-text2 = c .before .before .before .before .put-text2 in
-    let at-pre = c .before .before .before .before .before .before .before .before .before .before .before .before .before .before .before .before .before .before .pre in
     let at-shared-slice-known = c .before .before .before .before .before .before .before .before .before .before .before .before .before .before .before .before .shared-slice-known in
-    let wrote = table-wrote (x .t .now) (at-loop .i) (omega (arith, at-loop .inv .0, at-loop-test .left)) (at-put-text .ensures) (at-put-number .ensures) (at-put-text2 .ensures) (at-loop .inv .2) in
-    (wrote, omega (arith, wrote-end wrote, table-short (x .t .now) (λ i. omega (arith, at-shared-slice-known .given i)) at-pre))
+    λ few.
+    let wrote = table-wrote (x .t .now) (at-loop .i) (omega (arith, at-loop .inv .0, at-loop-test .left)) (at-put-text .ensures) (at-put-number .ensures) (at-put-text2 .ensures) (at-loop .inv .2 few) in
+    (wrote, omega (arith, wrote-end wrote, table-short (x .t .now) (λ i. omega (arith, at-shared-slice-known .given i)) few))
 
 pub put-table-spec : {M : Type 1} → statement M
 put-table-spec =

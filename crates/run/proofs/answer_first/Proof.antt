@@ -2,7 +2,7 @@
 use mathlib.Core.Path.{_≡_, sym}
 use native.Mathlib.Omega.{arith}
 use Prim.Native.Nat.{_*_}
-use lib.ListN.{length}
+use lib.ListN.{length, length-take}
 use lib.Seq.{length-take-le}
 use Rattle.run.proofs.StreamLaw.{first-refused, first-few, first-tables}
 use borrow.Author.Needs.{needs}
@@ -49,13 +49,7 @@ slice-aggregate-put-table c = let x = c .before .before .before .before .before 
     sym (length-take-le _ _ (omega (arith, few .1, kept, at-pre .1)))
 
 put-table-requires : tie.Need-put-table-requires
-put-table-requires c κs = let x = c .before .before .before .before .before .before .before .before .before .before .before .before .before .before .before .before .args in
-    let at-first-line = c .before .before .before .before .before .before .before .before .before .first-line in
-    let at-nodes = c .before .before .before .nodes in
-    let at-pre = c .before .before .before .before .before .before .before .before .before .before .before .before .before .before .before .before .pre in
-    let kept : length (at-first-line .last .1 .1 .0) ≡ length (x .ltl .now) = search needs in
-    let few = first-few (x .line .now) (at-first-line .last .1 .0) (at-first-line .last .1 .1 .0) (at-first-line .result) (at-nodes .given .0 .0) (at-nodes .given .0 .1 .0) (at-first-line .ensures) (at-nodes .given .1) in
-    omega (arith, length-take-le (3 * at-nodes .given .0 .1 .0) (at-first-line .last .1 .1 .0) (omega (arith, few .1, kept, at-pre .1)), few .1)
+put-table-requires c κs = search needs
 
 same-length : tie.Need-same-length
 same-length c = search needs
@@ -87,7 +81,9 @@ returns-2 c = let x = c .before .before .before .before .before .before .before 
     let at-first-line = c .before .before .before .before .before .before .before .before .before .before .before .before .first-line in
     let at-nodes = c .before .before .before .before .before .before .nodes in
     let at-put-table = c .before .before .put-table in
-    first-tables (x .line .now) (x .out .now) (at-put-table .last .0) (at-first-line .last .1 .0) (at-first-line .last .1 .1 .0) (at-first-line .result) (at-first-line .ensures) (at-put-table .result) (at-nodes .given .0 .0) (at-nodes .given .0 .1 .0) (at-nodes .given .1) (at-put-table .ensures .0) (at-put-table .ensures .1)
+    let few = first-few (x .line .now) (at-first-line .last .1 .0) (at-first-line .last .1 .1 .0) (at-first-line .result) (at-nodes .given .0 .0) (at-nodes .given .0 .1 .0) (at-first-line .ensures) (at-nodes .given .1) in
+    let (wrote, short) = at-put-table .ensures (omega (arith, length-take (3 * at-nodes .given .0 .1 .0) (at-first-line .last .1 .1 .0), few .1)) in
+    first-tables (x .line .now) (x .out .now) (at-put-table .last .0) (at-first-line .last .1 .0) (at-first-line .last .1 .1 .0) (at-first-line .result) (at-first-line .ensures) (at-put-table .result) (at-nodes .given .0 .0) (at-nodes .given .0 .1 .0) (at-nodes .given .1) wrote short
 
 pub answer-first-spec : {M : Type 1} → statement M
 answer-first-spec =

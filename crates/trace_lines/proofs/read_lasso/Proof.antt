@@ -2,10 +2,57 @@
 use borrow.Author.Needs.{needs}
 use native.Mathlib.Omega.{arith}
 use mathlib.Core.Path.{sym, subst, _∙_}
+use mathlib.Core.List.{List}
+use Prim.Native.Nat.{ℕ, _≤_}
+use Rattle.text.specs.Text.{text}
+use Rattle.text.specs.Limits.{mostBytes}
+use Rattle.text.specs.Inner.Places.{Stands}
 use Rattle.trace_lines.specs.Inner.LettersReader.{LettersRead, listed, Any, Some}
+use Rattle.trace_lines.specs.declared.Letters.the-variants.{Found}
 use Rattle.trace_lines.proofs.TraceLaw.{lead-no, no-loop, loop-no, lasso-open, lasso-tail, lasso-read}
 use Rattle.trace_lines.proofs.read_lasso.Statement.{statement}
 use Rattle.trace_lines.proofs.read_lasso.Tie as tie
+
+-- Where the lead-in was read.
+abbrev start : tie.After-next → tie.Start
+start n = n .before .before .before .before .before .before .before .before .before
+
+abbrev line : tie.After-next → List ℕ
+line n = start n .args .s .now
+
+lead : (n : tie.After-next)
+    → let r = n .before .before .before .before .read-list in
+    let g = n .next .given .0 in
+    let x = start n .args in
+    LettersRead listed Any (line n) (x .at) 0 (x .lead .now) (r .last .1 .1 .0) (Found (g .0) (g .1 .0) (g .1 .1 .0))
+lead n =
+    let r = n .before .before .before .before .read-list in
+    let x = start n .args in
+    subst (LettersRead listed Any (line n) (x .at) 0 (x .lead .now) (r .last .1 .1 .0)) (n .next .given .1) (r .ensures)
+
+-- Where ` (` stands after it.
+abbrev led : tie.Else1 → tie.After-next
+led p = p .before .before .before .before
+
+between : (p : tie.Else1) → Stands (text " (") (line (led p)) (led p .next .given .0 .0) (p .before .match-word .result)
+between p = p .before .match-word .ensures .whole (lead (led p) .2 .stands .within) (p .if1 .left)
+
+-- Where the loop was read after that.
+abbrev passed : tie.After-end → tie.Else1
+passed e = e .before .before .before .before .before .before
+
+cycle : (e : tie.After-end)
+    → let r = e .before .before .before .before .read-some in
+    let g = e .end .given .0 in
+    let p = passed e in
+    LettersRead listed Some (line (led p)) (p .before .match-word .result) 0 (start (led p) .args .cycle .now) (r .last .1 .1 .0) (Found (g .0) (g .1 .0) (g .1 .1 .0))
+cycle e =
+    let r = e .before .before .before .before .read-some in
+    let p = passed e in
+    subst (LettersRead listed Some (line (led p)) (p .before .match-word .result) 0 (start (led p) .args .cycle .now) (r .last .1 .1 .0)) (e .end .given .1) (r .ensures)
+
+inside : (e : tie.After-end) → e .end .given .0 .0 ≤ mostBytes
+inside e = omega (arith, cycle e .2 .stands .within, start (led (passed e)) .pre .short)
 
 read-list-requires : tie.Need-read-list-requires
 read-list-requires c κs = search needs
@@ -24,40 +71,19 @@ match-word-requires c κs = search needs
 
 add-if1 : tie.Need-add-if1
 add-if1 c =
-    let start = c .before .before .before .before .before .before .before .before .before .before .before .before in
-    let at-read-list = c .before .before .before .before .before .before .before in
     let at-next = c .before .before .before in
-    let x = start .args in
-    let s = x .s .now in
-    let (xs, _, a) = subst (LettersRead listed Any s (x .at) 0 (x .lead .now) (at-read-list .read-list .last .1 .1 .0)) (at-next .next .given .1) (at-read-list .read-list .ensures) in
-    omega (arith, a .stands .within, start .pre .short)
+    omega (arith, lead at-next .2 .stands .within, start at-next .pre .short)
 
 same-length : tie.Need-same-length
 same-length c = search needs
 
 returns : tie.Need-returns
 returns c =
-    let start = c .before .before .before .before .before .before .before .before .before .before .before .before .before in
-    let at-read-list = c .before .before .before .before .before .before .before .before in
-    let at-next = c .before .before .before .before in
-    let at-match-word = c .before in
-    let x = start .args in
-    let s = x .s .now in
-    let (xs, _, a) = subst (LettersRead listed Any s (x .at) 0 (x .lead .now) (at-read-list .read-list .last .1 .1 .0)) (at-next .next .given .1) (at-read-list .read-list .ensures) in
-    no-loop xs (a .stands) (at-match-word .match-word .ensures .part (a .stands .within) (c .if1 .taken))
+    let (xs, _, a) = lead (c .before .before .before .before) in
+    no-loop xs (a .stands) (c .before .match-word .ensures .part (a .stands .within) (c .if1 .taken))
 
 read-some-requires : tie.Need-read-some-requires
-read-some-requires c κs =
-    let start = c .before .before .before .before .before .before .before .before .before .before .before .before .before .before in
-    let at-read-list = c .before .before .before .before .before .before .before .before .before in
-    let at-next = c .before .before .before .before .before in
-    let at-match-word = c .before .before in
-    let at-if1 = c .before in
-    let x = start .args in
-    let s = x .s .now in
-    let (xs, _, a) = subst (LettersRead listed Any s (x .at) 0 (x .lead .now) (at-read-list .read-list .last .1 .1 .0)) (at-next .next .given .1) (at-read-list .read-list .ensures) in
-    let o = at-match-word .match-word .ensures .whole (a .stands .within) (at-if1 .if1 .left) in
-    record { few = omega arith; within = o .within; short = start .pre .short }
+read-some-requires c κs = record { few = omega arith; within = between (c .before) .within; short = start (led (c .before)) .pre .short }
 
 enum-known-q : tie.Need-enum-known-q
 enum-known-q c = search needs
@@ -76,52 +102,17 @@ same-length-3 c = search needs
 
 returns-2 : tie.Need-returns-2
 returns-2 c =
-    let start = c .before .before .before .before .before .before .before .before .before .before .before .before .before .before .before .before .before .before .before .before .before .before in
-    let at-read-list = c .before .before .before .before .before .before .before .before .before .before .before .before .before .before .before .before .before in
-    let at-next = c .before .before .before .before .before .before .before .before .before .before .before .before .before in
-    let at-match-word = c .before .before .before .before .before .before .before .before .before .before in
-    let at-if1 = c .before .before .before .before .before .before .before .before .before in
-    let at-read-some = c .before .before .before .before .before .before .before in
     let at-end = c .before .before .before in
-    let at-byte = c .before in
-    let x = start .args in
-    let s = x .s .now in
-    let (xs, _, a) = subst (LettersRead listed Any s (x .at) 0 (x .lead .now) (at-read-list .read-list .last .1 .1 .0)) (at-next .next .given .1) (at-read-list .read-list .ensures) in
-    let o = at-match-word .match-word .ensures .whole (a .stands .within) (at-if1 .if1 .left) in
-    let (ys, h, b) = subst (LettersRead listed Some s (at-match-word .match-word .result) 0 (x .cycle .now) (at-read-some .read-some .last .1 .1 .0)) (at-end .end .given .1) (at-read-some .read-some .ensures) in
-    lasso-open xs (a .stands) o ys h (b .stands) (λ e. c .if2 .taken (at-byte .byte .ensures .0 ∙ e))
+    let p = passed at-end in
+    let (xs, _, a) = lead (led p) in
+    let (ys, h, b) = cycle at-end in
+    lasso-open xs (a .stands) (between p) ys h (b .stands) (λ e. c .if2 .taken (c .before .byte .ensures .0 ∙ e))
 
 add-if3 : tie.Need-add-if3
-add-if3 c =
-    let start = c .before .before .before .before .before .before .before .before .before .before .before .before .before .before .before .before .before .before .before .before .before .before in
-    let at-read-list = c .before .before .before .before .before .before .before .before .before .before .before .before .before .before .before .before .before in
-    let at-next = c .before .before .before .before .before .before .before .before .before .before .before .before .before in
-    let at-match-word = c .before .before .before .before .before .before .before .before .before .before in
-    let at-if1 = c .before .before .before .before .before .before .before .before .before in
-    let at-read-some = c .before .before .before .before .before .before .before in
-    let at-end = c .before .before .before in
-    let x = start .args in
-    let s = x .s .now in
-    let (xs, _, a) = subst (LettersRead listed Any s (x .at) 0 (x .lead .now) (at-read-list .read-list .last .1 .1 .0)) (at-next .next .given .1) (at-read-list .read-list .ensures) in
-    let o = at-match-word .match-word .ensures .whole (a .stands .within) (at-if1 .if1 .left) in
-    let (ys, h, b) = subst (LettersRead listed Some s (at-match-word .match-word .result) 0 (x .cycle .now) (at-read-some .read-some .last .1 .1 .0)) (at-end .end .given .1) (at-read-some .read-some .ensures) in
-    omega (arith, b .stands .within, start .pre .short)
+add-if3 c = omega (arith, inside (c .before .before .before))
 
 add-t31 : tie.Need-add-t31
-add-t31 c =
-    let start = c .before .before .before .before .before .before .before .before .before .before .before .before .before .before .before .before .before .before .before .before .before .before .before in
-    let at-read-list = c .before .before .before .before .before .before .before .before .before .before .before .before .before .before .before .before .before .before in
-    let at-next = c .before .before .before .before .before .before .before .before .before .before .before .before .before .before in
-    let at-match-word = c .before .before .before .before .before .before .before .before .before .before .before in
-    let at-if1 = c .before .before .before .before .before .before .before .before .before .before in
-    let at-read-some = c .before .before .before .before .before .before .before .before in
-    let at-end = c .before .before .before .before in
-    let x = start .args in
-    let s = x .s .now in
-    let (xs, _, a) = subst (LettersRead listed Any s (x .at) 0 (x .lead .now) (at-read-list .read-list .last .1 .1 .0)) (at-next .next .given .1) (at-read-list .read-list .ensures) in
-    let o = at-match-word .match-word .ensures .whole (a .stands .within) (at-if1 .if1 .left) in
-    let (ys, h, b) = subst (LettersRead listed Some s (at-match-word .match-word .result) 0 (x .cycle .now) (at-read-some .read-some .last .1 .1 .0)) (at-end .end .given .1) (at-read-some .read-some .ensures) in
-    omega (arith, b .stands .within, start .pre .short)
+add-t31 c = omega (arith, inside (c .before .before .before .before))
 
 same-length-4 : tie.Need-same-length-4
 same-length-4 c = search needs
@@ -131,21 +122,13 @@ same-length-5 c = search needs
 
 returns-3 : tie.Need-returns-3
 returns-3 c =
-    let start = c .before .before .before .before .before .before .before .before .before .before .before .before .before .before .before .before .before .before .before .before .before .before .before in
-    let at-read-list = c .before .before .before .before .before .before .before .before .before .before .before .before .before .before .before .before .before .before in
-    let at-next = c .before .before .before .before .before .before .before .before .before .before .before .before .before .before in
-    let at-match-word = c .before .before .before .before .before .before .before .before .before .before .before in
-    let at-if1 = c .before .before .before .before .before .before .before .before .before .before in
-    let at-read-some = c .before .before .before .before .before .before .before .before in
-    let at-end = c .before .before .before .before in
-    let at-byte = c .before .before in
     let at-if2 = c .before in
-    let x = start .args in
-    let s = x .s .now in
-    let (xs, _, a) = subst (LettersRead listed Any s (x .at) 0 (x .lead .now) (at-read-list .read-list .last .1 .1 .0)) (at-next .next .given .1) (at-read-list .read-list .ensures) in
-    let o = at-match-word .match-word .ensures .whole (a .stands .within) (at-if1 .if1 .left) in
-    let (ys, h, b) = subst (LettersRead listed Some s (at-match-word .match-word .result) 0 (x .cycle .now) (at-read-some .read-some .last .1 .1 .0)) (at-end .end .given .1) (at-read-some .read-some .ensures) in
-    lasso-tail xs (a .stands) o ys h (b .stands) (sym (at-byte .byte .ensures .0) ∙ at-if2 .if2 .left) (at-byte .byte .ensures .1 (omega (arith, at-if2 .if2 .left))) (c .if3 .taken)
+    let at-byte = c .before .before in
+    let at-end = c .before .before .before .before in
+    let p = passed at-end in
+    let (xs, _, a) = lead (led p) in
+    let (ys, h, b) = cycle at-end in
+    lasso-tail xs (a .stands) (between p) ys h (b .stands) (sym (at-byte .byte .ensures .0) ∙ at-if2 .if2 .left) (at-byte .byte .ensures .1 (omega (arith, at-if2 .if2 .left))) (c .if3 .taken)
 
 either-requires : tie.Need-either-requires
 either-requires c κs = search needs
@@ -155,12 +138,9 @@ same-length-6 c = search needs
 
 returns-4 : tie.Need-returns-4
 returns-4 c =
-    let start = c .before .before .before .before .before .before .before .before .before .before in
-    let at-read-list = c .before .before .before .before .before in
-    let at-p = c .before in
-    let x = start .args in
-    let s = x .s .now in
-    lead-no (subst (LettersRead listed Any s (x .at) 0 (x .lead .now) (at-read-list .read-list .last .1 .1 .0)) (at-p .p .given .1) (at-read-list .read-list .ensures))
+    let x = c .before .before .before .before .before .before .before .before .before .before .args in
+    let r = c .before .before .before .before .before .read-list in
+    lead-no (subst (LettersRead listed Any (x .s .now) (x .at) 0 (x .lead .now) (r .last .1 .1 .0)) (c .before .p .given .1) (r .ensures))
 
 same-length-7 : tie.Need-same-length-7
 same-length-7 c = search needs
@@ -170,18 +150,10 @@ same-length-8 c = search needs
 
 returns-5 : tie.Need-returns-5
 returns-5 c =
-    let start = c .before .before .before .before .before .before .before .before .before .before .before .before .before .before .before .before .before .before .before .before in
-    let at-read-list = c .before .before .before .before .before .before .before .before .before .before .before .before .before .before .before in
-    let at-next = c .before .before .before .before .before .before .before .before .before .before .before in
-    let at-match-word = c .before .before .before .before .before .before .before .before in
-    let at-if1 = c .before .before .before .before .before .before .before in
-    let at-read-some = c .before .before .before .before .before in
-    let at-q = c .before in
-    let x = start .args in
-    let s = x .s .now in
-    let (xs, _, a) = subst (LettersRead listed Any s (x .at) 0 (x .lead .now) (at-read-list .read-list .last .1 .1 .0)) (at-next .next .given .1) (at-read-list .read-list .ensures) in
-    let o = at-match-word .match-word .ensures .whole (a .stands .within) (at-if1 .if1 .left) in
-    loop-no xs (a .stands) o (subst (LettersRead listed Some s (at-match-word .match-word .result) 0 (x .cycle .now) (at-read-some .read-some .last .1 .1 .0)) (at-q .q .given .1) (at-read-some .read-some .ensures))
+    let p = c .before .before .before .before .before .before .before in
+    let r = c .before .before .before .before .before .read-some in
+    let (xs, _, a) = lead (led p) in
+    loop-no xs (a .stands) (between p) (subst (LettersRead listed Some (line (led p)) (p .before .match-word .result) 0 (start (led p) .args .cycle .now) (r .last .1 .1 .0)) (c .before .q .given .1) (r .ensures))
 
 same-length-9 : tie.Need-same-length-9
 same-length-9 c = search needs
@@ -191,22 +163,13 @@ same-length-10 c = search needs
 
 returns-6 : tie.Need-returns-6
 returns-6 c =
-    let start = c .before .before .before .before .before .before .before .before .before .before .before .before .before .before .before .before .before .before .before .before .before .before .before .before in
-    let at-read-list = c .before .before .before .before .before .before .before .before .before .before .before .before .before .before .before .before .before .before .before in
-    let at-next = c .before .before .before .before .before .before .before .before .before .before .before .before .before .before .before in
-    let at-match-word = c .before .before .before .before .before .before .before .before .before .before .before .before in
-    let at-if1 = c .before .before .before .before .before .before .before .before .before .before .before in
-    let at-read-some = c .before .before .before .before .before .before .before .before .before in
-    let at-end = c .before .before .before .before .before in
-    let at-byte = c .before .before .before in
     let at-if2 = c .before .before in
-    let at-if3 = c .before in
-    let x = start .args in
-    let s = x .s .now in
-    let (xs, _, a) = subst (LettersRead listed Any s (x .at) 0 (x .lead .now) (at-read-list .read-list .last .1 .1 .0)) (at-next .next .given .1) (at-read-list .read-list .ensures) in
-    let o = at-match-word .match-word .ensures .whole (a .stands .within) (at-if1 .if1 .left) in
-    let (ys, h, b) = subst (LettersRead listed Some s (at-match-word .match-word .result) 0 (x .cycle .now) (at-read-some .read-some .last .1 .1 .0)) (at-end .end .given .1) (at-read-some .read-some .ensures) in
-    lasso-read a o ys h b (sym (at-byte .byte .ensures .0) ∙ at-if2 .if2 .left) (at-byte .byte .ensures .1 (omega (arith, at-if2 .if2 .left))) (at-if3 .if3 .left) (c .either .result) (c .either .ensures)
+    let at-byte = c .before .before .before in
+    let at-end = c .before .before .before .before .before in
+    let p = passed at-end in
+    let (xs, _, a) = lead (led p) in
+    let (ys, h, b) = cycle at-end in
+    lasso-read a (between p) ys h b (sym (at-byte .byte .ensures .0) ∙ at-if2 .if2 .left) (at-byte .byte .ensures .1 (omega (arith, at-if2 .if2 .left))) (c .before .if3 .left) (c .either .result) (c .either .ensures)
 
 pub read-lasso-spec : {M : Type 1} → statement M
 read-lasso-spec =

@@ -1,0 +1,13 @@
+-- How many bytes the printed texts have at most.
+use Prim.Native.Nat.{ℕ}
+
+-- No answer prints more bytes, and none but that to line 1 more than `shortest`.
+abbrev pub longest : ℕ
+longest = 107000
+
+abbrev pub shortest : ℕ
+shortest = 60
+
+-- No verdict's word has more.
+abbrev pub longestVerdict : ℕ
+longestVerdict = 4
