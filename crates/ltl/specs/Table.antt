@@ -9,13 +9,13 @@ use Rattle.logic.specs.Tree.{Ltl, ltrue, lvar, lnot, land, lor, lnext, luntil}
 unfoldable pub treeOfNode : (ℕ → Ltl) → Node → Ltl
 treeOfNode x (node k l r) =
     getD (
-    ltrue
-    ∷ lvar l
-    ∷ lnot (x l)
-    ∷ land (x l) (x r)
-    ∷ lor (x l) (x r)
-    ∷ lnext (x l)
-    ∷ luntil (x l) (x r)
+    ltrue  -- 0 true
+    ∷ lvar l  -- 1 var
+    ∷ lnot (x l)  -- 2 not
+    ∷ land (x l) (x r)  -- 3 and
+    ∷ lor (x l) (x r)  -- 4 or
+    ∷ lnext (x l)  -- 5 next
+    ∷ luntil (x l) (x r)  -- 6 until
     ∷ []
     ) k ltrue
 

@@ -23,17 +23,17 @@ asFormula (formula f) = f
 unfoldable pub partOf : (ℕ → Part) → Node → Part
 partOf x (node k l r) =
     getD (
-    boolean btrue
-    ∷ boolean (var l)
-    ∷ boolean (bnot (asBoolean (x l)))
-    ∷ boolean (band (asBoolean (x l)) (asBoolean (x r)))
-    ∷ formula (weak (asBoolean (x l)))
-    ∷ formula (strong (asBoolean (x l)))
-    ∷ formula (fnot (asFormula (x l)))
-    ∷ formula (fand (asFormula (x l)) (asFormula (x r)))
-    ∷ formula (next (asFormula (x l)))
-    ∷ formula (until (asFormula (x l)) (asFormula (x r)))
-    ∷ formula (abort (asFormula (x l)) (asBoolean (x r)))
+    boolean btrue  -- 0 true
+    ∷ boolean (var l)  -- 1 var
+    ∷ boolean (bnot (asBoolean (x l)))  -- 2 bnot
+    ∷ boolean (band (asBoolean (x l)) (asBoolean (x r)))  -- 3 band
+    ∷ formula (weak (asBoolean (x l)))  -- 4 weak
+    ∷ formula (strong (asBoolean (x l)))  -- 5 strong
+    ∷ formula (fnot (asFormula (x l)))  -- 6 not
+    ∷ formula (fand (asFormula (x l)) (asFormula (x r)))  -- 7 and
+    ∷ formula (next (asFormula (x l)))  -- 8 next
+    ∷ formula (until (asFormula (x l)) (asFormula (x r)))  -- 9 until
+    ∷ formula (abort (asFormula (x l)) (asBoolean (x r)))  -- 10 abort
     ∷ []
     ) k (boolean btrue)
 

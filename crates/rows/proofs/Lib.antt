@@ -1,5 +1,5 @@
 pub mod PushLaw
-pub mod PlaceLaw
+pub mod BitOfLaw
 pub mod RowLaw
 pub mod SignalLaw
 pub mod NextLaw

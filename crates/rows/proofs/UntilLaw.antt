@@ -13,9 +13,9 @@ use Rattle.logic.proofs.MomentsLaw.{gapless, inside-before}
 use Rattle.logic.specs.Tree.{Ltl, luntil}
 use Rattle.logic.specs.LtlMeaning.{LtlHolds}
 use Rattle.logic.proofs.StepLaw.{until-now, until-later}
-use Rattle.rows.specs.Inner.Rows.{place, Tells, Few, Swept}
+use Rattle.rows.specs.Inner.Rows.{bitOf, Tells, FitsRow, Swept}
 use Rattle.logic.proofs.BitLaw.{bit-zero, bit-brought}
-use Rattle.rows.proofs.PlaceLaw.{place-lt, place-start, in-loop, Next, on, round, end, next}
+use Rattle.rows.proofs.BitOfLaw.{bit-of-lt, bit-of-start, in-loop, Next, on, round, end, next}
 use Rattle.logic.proofs.TestLaw.{and-iff, or-iff}
 
 -- A step: the second operand, or the first and what follows.
@@ -24,7 +24,7 @@ step-is b a c = or-iff b (a && c) Iff·rfl (and-iff a c Iff·rfl Iff·rfl)
 
 -- ── A sweep by moments ──
 
-module _ (lead loop : List ℕ) (few : Few lead loop) (f g : ℕ) where
+module _ (lead loop : List ℕ) (few : FitsRow lead loop) (f g : ℕ) where
   abbrev t : Trace
   t = letterAt lead loop
 
@@ -32,7 +32,7 @@ module _ (lead loop : List ℕ) (few : Few lead loop) (f g : ℕ) where
   n = size lead loop
 
   abbrev at : ℕ → ℕ
-  at i = place lead loop i
+  at i = bitOf lead loop i
 
   -- The place of the loop's start.
   abbrev start : ℕ
@@ -46,7 +46,7 @@ module _ (lead loop : List ℕ) (few : Few lead loop) (f g : ℕ) where
     after (end z e k) = c
 
     step : {i : ℕ} → InTrace t i → (N : Next lead loop i) → bit r (at i) ≡ bit g (at i) || bit f (at i) && after N
-    step {i} k (on e k′) = rw e (R .before (at (suc i)) (omega (arith, e, few .most, place-lt lead loop i k)))
+    step {i} k (on e k′) = rw e (R .before (at (suc i)) (omega (arith, e, few .most, bit-of-lt lead loop i k)))
     step {i} k (round z e k′) = rw z (R .last)
     step {i} k (end z e k′) = rw z (R .last)
 
@@ -91,7 +91,7 @@ module _ (lead loop : List ℕ) (few : Few lead loop) (f g : ℕ) where
           → (i : ℕ) → InTrace t i → T (bit r (at i)) → Until i
       sound ended looped i k h =
           least c r R Until (λ i k b. until-now x y t i k (G .at i k .1 b)) (λ i k a N u. until-later x y t i (F .at i k .1 a) (later i N u))
-          n i (place-lt lead loop i k) k h
+          n i (bit-of-lt lead loop i k) k h
         where
           later : (i : ℕ) (N : Next lead loop i) → Then c r R Until N → Until (suc i)
           later i (on e k) u = u
@@ -159,10 +159,10 @@ module _ (lead loop : List ℕ) (few : Few lead loop) (f g : ℕ) where
         same : 0 < length loop → T (bit r start) → T (bit once start)
         same l h =
             let p = length lead in
-            let s : at p ≡ start = omega (arith, place-start lead loop p refl l) in
+            let s : at p ≡ start = omega (arith, bit-of-start lead loop p refl l) in
             let now : (i : ℕ) → InTrace t i → T (bit g (at i)) → P i = λ i k b. inl (says-now (bit 0 0) once O k (next lead loop i k) b) in
             let k = in-loop lead loop p (omega arith) l in
-            elim (least (bit once start) r R P now later n p (place-lt lead loop p k) k (subst (λ (m : ℕ). T (bit r m)) (sym s) h)) [
+            elim (least (bit once start) r R P now later n p (bit-of-lt lead loop p k) k (subst (λ (m : ℕ). T (bit r m)) (sym s) h)) [
               | inl o ↦ subst (λ (m : ℕ). T (bit once m)) s o
               | inr o ↦ o
             ]

@@ -14,7 +14,7 @@ ghost use Rattle.logic.specs.Letter.{bit, signals};
 ghost use Rattle.logic.specs.Trace.{size};
 ghost use Rattle.logic.specs.Tree.{Ltl, lvar, lnot, land, lor, lnext, luntil};
 ghost use Rattle.logic.specs.LtlMeaning.{LtlHoldsOn};
-ghost use Rattle.rows.specs.Inner.Rows.{Tells, Few, SignalIn, Learns, Swept, TellsNode};
+ghost use Rattle.rows.specs.Inner.Rows.{Tells, FitsRow, SignalIn, Learns, Swept, TellsNode};
 
 // The last letter of both lists has the lowest bit, the one before it the next, and so on; bits past the first letter may hold anything. So what
 // follows a moment is one bit lower, and nothing has to be masked out. A shift is taken modulo the word's length, so that no caller has to
@@ -41,7 +41,7 @@ fn signal_after(before: Row, s: &[Letter], k: u16) -> Row
 // The row of signal k.
 fn signal_row(lead: &[Letter], cycle: &[Letter], k: u16) -> Row
     requires { ⌜ k < signals ⌝ }
-    ensures { λ w. ⌜ (Few (now (lead .entry)) (now (cycle .entry)) → Tells (now (lead .entry)) (now (cycle .entry)) w (lvar k)) ⌝ }
+    ensures { λ w. ⌜ (FitsRow (now (lead .entry)) (now (cycle .entry)) → Tells (now (lead .entry)) (now (cycle .entry)) w (lvar k)) ⌝ }
 {
     signal_after(signal_after(0, lead, k), cycle, k)
 }
@@ -64,7 +64,7 @@ pub fn learn(k: u16, known: Letter, rows: &mut [Row], lead: &[Letter], cycle: &[
 
 // What accept row a and reject row r make of row b: a or (b and not r).
 pub fn gate(a: Row, b: Row, r: Row) -> Row
-    ensures { λ w. ⌜ ((lead loop : List ℕ) (x y z : Ltl) → Few lead loop → Tells lead loop a x → Tells lead loop b y → Tells lead loop r z
+    ensures { λ w. ⌜ ((lead loop : List ℕ) (x y z : Ltl) → FitsRow lead loop → Tells lead loop a x → Tells lead loop b y → Tells lead loop r z
         → Tells lead loop w (lor x (land y (lnot z)))) ⌝ }
 {
     a | (b & !r)
@@ -72,7 +72,7 @@ pub fn gate(a: Row, b: Row, r: Row) -> Row
 
 // The row of next, where the loop has so many letters, 0 for none: each bit from the one below it, and the lowest from the loop's first.
 pub fn next_row(a: Row, period: usize) -> Row
-    ensures { λ w. ⌜ ((lead loop : List ℕ) (x : Ltl) → Few lead loop → length loop ≡ period → Tells lead loop a x → Tells lead loop w (lnext x)) ⌝ }
+    ensures { λ w. ⌜ ((lead loop : List ℕ) (x : Ltl) → FitsRow lead loop → length loop ≡ period → Tells lead loop a x → Tells lead loop w (lnext x)) ⌝ }
 {
     if period == 0 {
         a << 1
@@ -92,7 +92,7 @@ fn sweep(f: Row, g: Row, carry: Row) -> Row
 
 // The row of until, where the loop has so many letters, 0 for none: from no, and on a loop again from what that says of the loop's start.
 pub fn until_row(f: Row, g: Row, period: usize) -> Row
-    ensures { λ w. ⌜ ((lead loop : List ℕ) (x y : Ltl) → Few lead loop → length loop ≡ period
+    ensures { λ w. ⌜ ((lead loop : List ℕ) (x y : Ltl) → FitsRow lead loop → length loop ≡ period
         → Tells lead loop f x → Tells lead loop g y → Tells lead loop w (luntil x y)) ⌝ }
 {
     let once = sweep(f, g, 0);
@@ -106,7 +106,7 @@ pub fn until_row(f: Row, g: Row, period: usize) -> Row
 // The row of not, and, or. Most nodes are one of the three: two tests in front of the jump by the kind measured faster than that jump alone.
 fn logic_row(k: u16, a: Row, b: Row) -> Row
     requires { ⌜ (2 ≤ k) × (k < 5) ⌝ }
-    ensures { λ w. ⌜ ((lead loop : List ℕ) (l : ℕ) → Few lead loop → TellsNode lead loop k l a b w) ⌝ }
+    ensures { λ w. ⌜ ((lead loop : List ℕ) (l : ℕ) → FitsRow lead loop → TellsNode lead loop k l a b w) ⌝ }
 {
     if k == ltl::AND {
         return a & b;
@@ -119,7 +119,7 @@ fn logic_row(k: u16, a: Row, b: Row) -> Row
 
 // The row of an LTL node of kind k, not a signal's, by its operands' rows a and b.
 pub fn node_row(k: u16, a: Row, b: Row, period: usize) -> Row
-    ensures { λ w. ⌜ ((lead loop : List ℕ) (l : ℕ) → Few lead loop → length loop ≡ period → (k ≡ 1 → ⊥) → TellsNode lead loop k l a b w) ⌝ }
+    ensures { λ w. ⌜ ((lead loop : List ℕ) (l : ℕ) → FitsRow lead loop → length loop ≡ period → (k ≡ 1 → ⊥) → TellsNode lead loop k l a b w) ⌝ }
 {
     // true
     if k < ltl::NOT {
@@ -137,8 +137,8 @@ pub fn node_row(k: u16, a: Row, b: Row, period: usize) -> Row
 }
 
 // Whether a tree holds on a trace of so many letters, by its row: its truth at moment 0.
-pub fn at_first(w: Row, letters: usize) -> bool
-    ensures { λ b. ⌜ ((lead loop : List ℕ) (x : Ltl) → Few lead loop → size lead loop ≡ letters → Tells lead loop w x → LtlHoldsOn x lead loop ↔ T b) ⌝ }
+pub fn holds_first(w: Row, letters: usize) -> bool
+    ensures { λ b. ⌜ ((lead loop : List ℕ) (x : Ltl) → FitsRow lead loop → size lead loop ≡ letters → Tells lead loop w x → LtlHoldsOn x lead loop ↔ T b) ⌝ }
 {
     (w >> (wrapping_sub_usize(letters, 1) % MOST_LETTERS)) & 1 == 1
 }

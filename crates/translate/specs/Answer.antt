@@ -27,9 +27,9 @@ answer none s = Nodes s
 answer (some x) s = Refused x
 
 -- The table in front and the rest untouched, or all of the list untouched.
-abbrev pub left : Option Refusal → List ℕ → List ℕ → List ℕ
-left none table l = table ++ drop (length table) l
-left (some x) table l = l
+abbrev pub listAfter : Option Refusal → List ℕ → List ℕ → List ℕ
+listAfter none table l = table ++ drop (length table) l
+listAfter (some x) table l = l
 
 -- What a success of size s leaves in front: the emitted table of the formula f, in 3 × s numbers. It is an LTL table of at most 4,094 nodes, and it keeps
 -- the meaning: this is demand 3, of the numbers at exit.
@@ -43,5 +43,5 @@ pub record Delivered (f : Formula) (s : ℕ) (table : List ℕ) : Type 0 where
 -- The translator's answer r and the lent list m at exit, for the table t and the list l at entry.
 pub record Delivers (t l : List ℕ) (r : Translation) (m : List ℕ) : Type 0 where
   pub answers : r ≡ answer (translateRefusal t (length l)) (emittedSize (formulaOf t))
-  pub leaves : m ≡ left (translateRefusal t (length l)) (emitted (formulaOf t)) l
+  pub leaves : m ≡ listAfter (translateRefusal t (length l)) (emitted (formulaOf t)) l
   pub succeeds : (s : ℕ) → r ≡ Nodes s → Delivered (formulaOf t) s (take (3 * s) m)

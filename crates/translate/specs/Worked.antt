@@ -8,14 +8,14 @@ use Rattle.psl.specs.Table.{formulaOf}
 use Rattle.logic.specs.KnownVerdicts.{Yes, No}
 use Rattle.translate.specs.Emitted.{trueN, varN, notN, andN, orN, nextN, emitted, emittedSize}
 
-abbrev pub sentence : Formula
-sentence = abort (next (strong (var 1))) (var 0)
+abbrev pub worked : Formula
+worked = abort (next (strong (var 1))) (var 0)
 
-abbrev pub sheet : List ℕ
-sheet = 1 ∷ 1 ∷ 0 ∷ 5 ∷ 0 ∷ 0 ∷ 8 ∷ 1 ∷ 0 ∷ 1 ∷ 0 ∷ 0 ∷ 10 ∷ 2 ∷ 3 ∷ []
+abbrev pub pslTable : List ℕ
+pslTable = 1 ∷ 1 ∷ 0 ∷ 5 ∷ 0 ∷ 0 ∷ 8 ∷ 1 ∷ 0 ∷ 1 ∷ 0 ∷ 0 ∷ 10 ∷ 2 ∷ 3 ∷ []
 
-abbrev pub nodes : List Node
-nodes =
+abbrev pub ltlNodes : List Node
+ltlNodes =
     trueN
     ∷ notN 0
     ∷ varN 0
@@ -33,10 +33,10 @@ nodes =
     ∷ []
 
 pub record Worked : Type 0 where
-  pub reads : formulaOf sheet ≡ sentence
-  pub size : emittedSize sentence ≡ 14
-  pub table : emitted sentence ≡ numbersOf nodes
-  pub trace1 : Yes sentence (1 ∷ []) []
-  pub trace2 : No sentence (0 ∷ 0 ∷ []) []
-  pub trace3 : Yes sentence [] (2 ∷ [])
-  pub trace4 : No sentence [] []
+  pub reads : formulaOf pslTable ≡ worked
+  pub size : emittedSize worked ≡ 14
+  pub table : emitted worked ≡ numbersOf ltlNodes
+  pub trace1 : Yes worked (1 ∷ []) []
+  pub trace2 : No worked (0 ∷ 0 ∷ []) []
+  pub trace3 : Yes worked [] (2 ∷ [])
+  pub trace4 : No worked [] []

@@ -20,7 +20,7 @@ ghost use Rattle.logic.specs.LtlMeaning.{LtlHoldsOn};
 ghost use Rattle.ltl.specs.Table.{treeOf};
 ghost use Rattle.logic.specs.Empty.{onEmpty};
 ghost use Rattle.logic.specs.Translation.{treeB};
-ghost use Rattle.rows.specs.Inner.Rows.{Tells, Few, RowsOf};
+ghost use Rattle.rows.specs.Inner.Rows.{Tells, FitsRow, RowsOf};
 ghost use Rattle.verdict.specs.Inner.Rows.{TellsFormula, SignalRows};
 ghost use Rattle.verdict.specs.Verdict.{PslJudges, LtlJudges};
 use logic::Letter;
@@ -37,7 +37,7 @@ const ROWS: usize = SIGNALS as usize;
 
 // The rows of the signals that a table names.
 fn signal_rows(t: &[u16], lead: &[Letter], cycle: &[Letter], vars: &mut [Row])
-    requires { ⌜ (pslRefusal (now t) ≡ none) × Few (now lead) (now cycle) × (signals ≤ length (now vars)) ⌝ }
+    requires { ⌜ (pslRefusal (now t) ≡ none) × FitsRow (now lead) (now cycle) × (signals ≤ length (now vars)) ⌝ }
     ensures { λ _. ⌜ SignalRows (now (lead .entry)) (now (cycle .entry)) (now (t .entry)) (now (vars .exit)) ⌝ }
 {
     let n = t.len() / 3;
@@ -54,7 +54,7 @@ fn signal_rows(t: &[u16], lead: &[Letter], cycle: &[Letter], vars: &mut [Row])
 // The row of a Boolean, by the rows of its signals.
 fn boolean_row(t: &[u16], i: NodeNo, vars: &[Row; ROWS]) -> Row
     requires { ⌜ (pslRefusal (now t) ≡ none) × (i .0 < count (now t)) × (kindAt (now t) (i .0) < booleanKinds) ⌝ }
-    ensures { λ w. ⌜ ((lead loop : List ℕ) → Few lead loop → SignalRows lead loop (now (t .entry)) (now (vars .entry))
+    ensures { λ w. ⌜ ((lead loop : List ℕ) → FitsRow lead loop → SignalRows lead loop (now (t .entry)) (now (vars .entry))
         → Tells lead loop w (treeB (booleanAt (now (t .entry)) (i .0)))) ⌝ }
 {
     let at = 3 * (i.0 as usize);
@@ -72,7 +72,7 @@ fn boolean_row(t: &[u16], i: NodeNo, vars: &[Row; ROWS]) -> Row
 // The row of a formula's translation, by the rows of accept and reject and of its signals; the trace's loop has `period` letters.
 fn formula_row(t: &[u16], i: NodeNo, a: Row, r: Row, vars: &[Row; ROWS], period: usize) -> Row
     requires { ⌜ (pslRefusal (now t) ≡ none) × (i .0 < count (now t)) × (booleanKinds ≤ kindAt (now t) (i .0)) ⌝ }
-    ensures { λ w. ⌜ ((lead loop : List ℕ) → Few lead loop → length loop ≡ period → SignalRows lead loop (now (t .entry)) (now (vars .entry))
+    ensures { λ w. ⌜ ((lead loop : List ℕ) → FitsRow lead loop → length loop ≡ period → SignalRows lead loop (now (t .entry)) (now (vars .entry))
         → TellsFormula lead loop (formulaAt (now (t .entry)) (i .0)) a r w) ⌝ }
 {
     let at = 3 * (i.0 as usize);
@@ -121,8 +121,8 @@ fn on_empty(t: &[u16], i: NodeNo) -> bool
     }
 }
 
-// Word n of a list of rows.
-fn word(list: &[Row], n: u16) -> Row
+// Row n of a list.
+fn row_at(list: &[Row], n: u16) -> Row
     requires { ⌜ n < length (now list) ⌝ }
     ensures { λ w. ⌜ w ≡ getD (now (list .entry)) n 0 ⌝ }
 {
@@ -131,7 +131,7 @@ fn word(list: &[Row], n: u16) -> Row
 
 // The rows of all nodes of an LTL table, from node 0 up.
 fn fill_rows(t: &[u16], lead: &[Letter], cycle: &[Letter], told: &mut [Row])
-    requires { ⌜ (ltlRefusal (now t) ≡ none) × Few (now lead) (now cycle) × (count (now t) ≤ length (now told)) ⌝ }
+    requires { ⌜ (ltlRefusal (now t) ≡ none) × FitsRow (now lead) (now cycle) × (count (now t) ≤ length (now told)) ⌝ }
     ensures { λ _. ⌜ RowsOf (now (lead .entry)) (now (cycle .entry)) (now (t .entry)) (now (told .exit)) ⌝ }
 {
     let n = t.len() / 3;
@@ -145,10 +145,10 @@ fn fill_rows(t: &[u16], lead: &[Letter], cycle: &[Letter], told: &mut [Row])
         let right = t[3 * i + 2];
         if kind == ltl::VAR {
             known = rows::learn(left, known, &mut vars, lead, cycle);
-            told[i] = word(&vars, left);
+            told[i] = row_at(&vars, left);
         } else {
-            let a = word(&*told, left);
-            let b = word(&*told, right);
+            let a = row_at(&*told, left);
+            let b = row_at(&*told, right);
             told[i] = rows::node_row(kind, a, b, period);
         }
         i += 1;
@@ -160,7 +160,7 @@ const FEW_NODES: usize = 128;
 
 // Whether an accepted LTL table holds on a trace. Small tables, which are the rule, clear a small array.
 fn ltl_holds(t: &[u16], lead: &[Letter], cycle: &[Letter]) -> bool
-    requires { ⌜ (ltlRefusal (now t) ≡ none) × Few (now lead) (now cycle) ⌝ }
+    requires { ⌜ (ltlRefusal (now t) ≡ none) × FitsRow (now lead) (now cycle) ⌝ }
     ensures { λ b. ⌜ LtlHoldsOn (treeOf (now (t .entry))) (now (lead .entry)) (now (cycle .entry)) ↔ T b ⌝ }
 {
     let last = t.len() / 3 - 1;
@@ -168,11 +168,11 @@ fn ltl_holds(t: &[u16], lead: &[Letter], cycle: &[Letter]) -> bool
     if last < FEW_NODES {
         let mut few = [0u64; FEW_NODES];
         fill_rows(t, lead, cycle, &mut few);
-        return rows::at_first(few[last], letters);
+        return rows::holds_first(few[last], letters);
     }
     let mut told = [0u64; ltl::MOST_NODES];
     fill_rows(t, lead, cycle, &mut told);
-    rows::at_first(told[last], letters)
+    rows::holds_first(told[last], letters)
 }
 
 // Whether an accepted PSL table holds on a trace: the translation's row, with nothing accepted or rejected yet.
@@ -187,7 +187,7 @@ fn psl_holds(t: &[u16], lead: &[Letter], cycle: &[Letter]) -> bool
     }
     let mut vars = [0u64; ROWS];
     signal_rows(t, lead, cycle, &mut vars);
-    rows::at_first(formula_row(t, root, 0, 0, &vars, cycle.len()), letters)
+    rows::holds_first(formula_row(t, root, 0, 0, &vars, cycle.len()), letters)
 }
 
 pub enum Verdict {

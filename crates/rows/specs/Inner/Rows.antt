@@ -15,16 +15,16 @@ use Rattle.logic.specs.LtlMeaning.{LtlHolds}
 use Rattle.ltl.specs.Table.{treeOfNode, treeAt}
 use Rattle.ltl.specs.Check.{LeftOperand, RightOperand}
 
--- The place of moment m: how many letters of both lists stand after its letter. Past the lead-in it goes round the loop.
-unfoldable pub place : List ℕ → List ℕ → ℕ → ℕ
-place lead loop m = cond (ltb m (length lead)) (size lead loop - 1 - m) (length loop - 1 - (m - length lead) % length loop)
+-- The bit of moment m: how many letters of both lists stand after its letter. Past the lead-in it goes round the loop.
+unfoldable pub bitOf : List ℕ → List ℕ → ℕ → ℕ
+bitOf lead loop m = cond (ltb m (length lead)) (size lead loop - 1 - m) (length loop - 1 - (m - length lead) % length loop)
 
--- Row w tells tree x: at every moment inside the trace, going round the loop too, x holds exactly where the bit at the moment's place is set.
+-- Row w tells tree x: at every moment inside the trace, going round the loop too, x holds exactly where the moment's bit is set.
 pub record Tells (lead loop : List ℕ) (w : ℕ) (x : Ltl) : Type 0 where
-  pub at : (m : ℕ) → InTrace (letterAt lead loop) m → LtlHolds x (letterAt lead loop) m ↔ T (bit w (place lead loop m))
+  pub at : (m : ℕ) → InTrace (letterAt lead loop) m → LtlHolds x (letterAt lead loop) m ↔ T (bit w (bitOf lead loop m))
 
 -- A trace that a row has room for: it has a letter, and no more than a verdict takes.
-pub record Few (lead loop : List ℕ) : Type 0 where
+pub record FitsRow (lead loop : List ℕ) : Type 0 where
   pub some : 0 < size lead loop
   pub most : size lead loop ≤ mostLetters
 
@@ -33,14 +33,14 @@ abbrev pub SignalIn : List ℕ → ℕ → ℕ → Type 0
 SignalIn s k w = (i m : ℕ) → i + m + 1 ≡ length s → m < mostLetters → bit w m ≡ bit (getD s i 0) k
 
 -- Word k of a list is the row of signal k, for each signal k of the letter `known`.
-pub record Known (lead loop : List ℕ) (known : ℕ) (rows : List ℕ) : Type 0 where
+pub record RowsKnown (lead loop : List ℕ) (known : ℕ) (rows : List ℕ) : Type 0 where
   pub row : (k : ℕ) → k < signals → T (bit known k) → Tells lead loop (getD rows k 0) (lvar k)
 
 -- Signal k is learnt, where the list has a word for each signal: r is what is known then.
 abbrev pub Learns : List ℕ → List ℕ → ℕ → ℕ → List ℕ → ℕ → List ℕ → Type 0
 Learns lead loop k known rows r rows′ =
-    Few lead loop → k < signals → signals ≤ length rows → Known lead loop known rows
-    → Known lead loop r rows′ × T (bit r k) × ((j : ℕ) → T (bit known j) → T (bit r j))
+    FitsRow lead loop → k < signals → signals ≤ length rows → RowsKnown lead loop known rows
+    → RowsKnown lead loop r rows′ × T (bit r k) × ((j : ℕ) → T (bit known j) → T (bit r j))
 
 -- Until in one sweep from the last letter back: the second operand, or the first and the until that follows. The carry follows the last letter.
 pub record Swept (f g : ℕ) (carry : Bool) (r : ℕ) : Type 0 where

@@ -9,7 +9,7 @@ use Rattle.logic.specs.Letter.{signals}
 use Rattle.table.specs.Node.{count, kindAt, leftAt, rightAt}
 use Rattle.ltl.proofs.AcceptedLaw.{is-var, operands-below}
 use Rattle.logic.specs.Tree.{lvar}
-use Rattle.rows.specs.Inner.Rows.{Tells, TellsNode, Known}
+use Rattle.rows.specs.Inner.Rows.{Tells, TellsNode, RowsKnown}
 use Rattle.rows.proofs.SignalLaw.{known-none}
 use Rattle.rows.proofs.TableLaw.{Told, told-none, told-more, told-all, tells-signal}
 use Rattle.verdict.proofs.fill_rows.Statement.{statement}
@@ -17,7 +17,7 @@ use Rattle.verdict.proofs.fill_rows.Tie as tie
 
 abbrev Inv-loop : tie.InvT-loop
 Inv-loop t lead cycle told₀ n period vars₀ known₀ i₀ told vars known i =
-    (n ≡ count t) × (i ≤ n) × (length told ≡ length told₀) × (length vars ≡ signals) × Told lead cycle t i told × Known lead cycle known vars
+    (n ≡ count t) × (i ≤ n) × (length told ≡ length told₀) × (length vars ≡ signals) × Told lead cycle t i told × RowsKnown lead cycle known vars
 
 abbrev μ-loop : tie.MeasureT-loop
 μ-loop t lead cycle told₀ n period vars₀ known₀ i₀ told vars known i = n - i
@@ -51,17 +51,17 @@ below u e =
 loop-holds : tie.Need-loop-holds Inv-loop μ-loop
 loop-holds c = (search needs, omega arith, refl, search needs, told-none, known-none)
 
-word-requires : tie.Need-word-requires Inv-loop μ-loop
-word-requires c κs =
+row-at-requires : tie.Need-row-at-requires Inv-loop μ-loop
+row-at-requires c κs =
     let l = c .before .before in
     let u = l .before .before .before in
     omega (arith, signal-below u (l .before .before .if1 .taken), l .learn .kept .1 .1 .0, turn u .loop .inv .3)
 
-word-requires-2 : tie.Need-word-requires-2 Inv-loop μ-loop
-word-requires-2 c κs = below (c .before .before) (c .before .if1 .left) .0
+row-at-requires-2 : tie.Need-row-at-requires-2 Inv-loop μ-loop
+row-at-requires-2 c κs = below (c .before .before) (c .before .if1 .left) .0
 
-word-requires-3 : tie.Need-word-requires-3 Inv-loop μ-loop
-word-requires-3 c κs = let e = c .before .before .before in below (e .before) (e .if1 .left) .1
+row-at-requires-3 : tie.Need-row-at-requires-3 Inv-loop μ-loop
+row-at-requires-3 c κs = let e = c .before .before .before in below (e .before) (e .if1 .left) .1
 
 -- A row for node i.
 one-more : (u : tie.After-shared-slice-known6 Inv-loop μ-loop) (v : ℕ)
@@ -88,7 +88,7 @@ filled : (c : tie.Joined1 Inv-loop μ-loop)
     (length (c .if1 .told) ≡ length (a .told .now))
     × (length (c .if1 .vars) ≡ signals)
     × Told (a .lead .now) (a .cycle .now) (a .t .now) (L .loop .i + 1) (c .if1 .told)
-    × Known (a .lead .now) (a .cycle .now) (c .if1 .known) (c .if1 .vars)
+    × RowsKnown (a .lead .now) (a .cycle .now) (c .if1 .known) (c .if1 .vars)
 filled c =
     let u = c .before in
     let L = turn u in
@@ -143,12 +143,12 @@ fill-rows-spec =
     (λ c. search needs)
     (λ c κs. search needs)
     (λ c. search needs)
-    word-requires
+    row-at-requires
     (λ c. search needs)
     (λ c. search needs)
     -- another node
-    word-requires-2
-    word-requires-3
+    row-at-requires-2
+    row-at-requires-3
     (λ c κs. search needs)
     (λ c. search needs)
     (λ c. search needs)

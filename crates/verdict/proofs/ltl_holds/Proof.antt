@@ -58,7 +58,7 @@ ltl-holds-spec =
     (λ c.
     let r = c .before in
     let n = small r in
-    c .at-first .ensures (lead n) (cycle n) (treeOf (table n)) (start n .pre .1) refl (root n _ (r .before .fill-rows .ensures)))
+    c .holds-first .ensures (lead n) (cycle n) (treeOf (table n)) (start n .pre .1) refl (root n _ (r .before .fill-rows .ensures)))
     -- more nodes
     (λ c. search needs)
     (λ c κs. let n = c .before .before in (start n .pre .0, start n .pre .1, nodes n .1))
@@ -68,4 +68,4 @@ ltl-holds-spec =
     (λ c.
     let r = c .before in
     let n = large r in
-    c .at-first2 .ensures (lead n) (cycle n) (treeOf (table n)) (start n .pre .1) refl (root n _ (r .before .fill-rows2 .ensures))))
+    c .holds-first2 .ensures (lead n) (cycle n) (treeOf (table n)) (start n .pre .1) refl (root n _ (r .before .fill-rows2 .ensures))))

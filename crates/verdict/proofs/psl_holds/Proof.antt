@@ -10,7 +10,7 @@ use Rattle.psl.specs.Inner.Parts.{formulaAt}
 use Rattle.psl.specs.Check.{pslRefusal, pslRules}
 use Rattle.psl.proofs.AcceptedLaw.{some-node, most-nodes, root-formula}
 use Rattle.logic.specs.Translation.{translated, falsum}
-use Rattle.rows.specs.Inner.Rows.{Few}
+use Rattle.rows.specs.Inner.Rows.{FitsRow}
 use Rattle.rows.proofs.RowLaw.{tells-false}
 use Rattle.verdict.proofs.HoldsLaw.{holds-none, holds-some}
 use Rattle.verdict.proofs.psl_holds.Statement.{statement}
@@ -40,7 +40,7 @@ nodes n = let fine = start n .pre .0 in (some-node (table n) fine, most-nodes (t
 root : (n : Known) → let t = table n in (pslRefusal t ≡ none) × (count t - 1 < count t) × (4 ≤ kindAt t (count t - 1))
 root n = let fine = start n .pre .0 in (fine, omega (arith, nodes n .0), root-formula (table n) fine)
 
-few : (e : tie.Else1) → let a = start (e .before) .args in Few (a .lead .now) (a .cycle .now)
+few : (e : tie.Else1) → let a = start (e .before) .args in FitsRow (a .lead .now) (a .cycle .now)
 few e = record { some = omega (arith, e .if1 .left); most = start (e .before) .pre .1 }
 
 pub psl-holds-spec : {M : Type 1} → statement M
@@ -71,5 +71,5 @@ psl-holds-spec =
     let w = few (s .before .before) in
     let row = f .formula-row .ensures l m w refl (s .signal-rows .ensures) falsum falsum
     (record { accept = tells-false w; reject = tells-false w }) in
-    holds-some t l m (c .at-first .result) w
-    (c .at-first .ensures l m (translated (formulaAt t (count t - 1)) falsum falsum) w refl row)))
+    holds-some t l m (c .holds-first .result) w
+    (c .holds-first .ensures l m (translated (formulaAt t (count t - 1)) falsum falsum) w refl row)))
