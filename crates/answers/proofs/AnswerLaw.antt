@@ -9,7 +9,7 @@ use lib.ListN.{length, take, replicate, length-replicate}
 use Rattle.trace.specs.Limits.{mostLetters}
 use Rattle.logic.specs.Trace.{size}
 use Rattle.trace.specs.declared.Refusal.{Refusal}
-use Rattle.table.specs.Answer.{refused}
+use Rattle.trace.specs.Refusal.{refused}
 use Rattle.table.specs.Node.{numbersOf}
 use Rattle.table.proofs.NodeLaw.{length-numbers}
 use Rattle.table.proofs.CheckLaw.{some-none}

@@ -3,7 +3,7 @@ use mathlib.Core.Path.{_≡_}
 use mathlib.Core.List.{List}
 use Prim.Native.Nat.{ℕ, _<_}
 use Rattle.logic.specs.Trace.{size}
-use Rattle.table.specs.Answer.{refused}
+use Rattle.trace.specs.Refusal.{refused}
 use Rattle.logic.specs.Formula.{Formula}
 use Rattle.logic.specs.Meaning.{HoldsOn}
 use Rattle.logic.specs.LtlMeaning.{LtlHoldsOn}

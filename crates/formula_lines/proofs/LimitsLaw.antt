@@ -8,7 +8,7 @@ use borrow.Author.Tests.{leb-true, le-leb, not-true}
 use lib.Dec.{leb}
 use lib.ListN.{length}
 use Rattle.table.specs.Node.{numbersOf}
-use Rattle.table.specs.Answer.{refused}
+use Rattle.trace.specs.Refusal.{refused}
 use Rattle.logic.specs.Formula.{Formula}
 use Rattle.psl.specs.Check.{pslRules, pslRefusal}
 use Rattle.text.proofs.LimitsLaw.{passed, third}

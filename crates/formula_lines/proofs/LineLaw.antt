@@ -13,7 +13,7 @@ use Rattle.logic.specs.Letter.{signals}
 use Rattle.table.specs.Node.{numbersOf}
 use Rattle.table.proofs.NodeLaw.{length-numbers}
 use Rattle.logic.specs.Formula.{BoolExpr, btrue, var, bnot, band, Formula, weak, strong, fnot, fand, next, until, abort}
-use Rattle.table.specs.Answer.{refused}
+use Rattle.trace.specs.Refusal.{refused}
 use Rattle.psl.specs.Check.{pslRules}
 use Rattle.text.specs.Text.{text}
 use Rattle.formula_lines.specs.Spelling.{spell, formulaLine}

@@ -8,8 +8,7 @@ use lib.ListN.{length}
 use lib.Dec.{leb}
 use Rattle.trace.specs.declared.Refusal.{Refusal}
 use Rattle.table.specs.Node.{numbersOf}
-use Rattle.table.specs.Answer.{refused}
-use Rattle.table.specs.Check.{unless, orElse}
+use Rattle.trace.specs.Refusal.{refused, unless, orElse}
 use Rattle.logic.specs.Formula.{Formula}
 use Rattle.psl.specs.Check.{pslRules}
 use Rattle.formula_lines.specs.Spelling.{formulaLine}

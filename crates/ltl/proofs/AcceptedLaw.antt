@@ -6,7 +6,8 @@ use mathlib.Core.List.{List}
 use native.Mathlib.Omega.{arith}
 use Rattle.logic.specs.Letter.{signals}
 use Rattle.table.specs.Node.{count, kindAt, leftAt, rightAt}
-use Rattle.table.specs.Check.{unused, shapeOf, isBoolean}
+use Rattle.table.specs.Rules.{unused, shapeOf}
+use Rattle.table.specs.Check.{isBoolean}
 use Rattle.table.proofs.CheckLaw.{Fits, fit-below, fit-unused, table-sized, kind-in, left-fits, right-fits}
 use Rattle.table.proofs.KindLaw.{each, _⨾_}
 use Rattle.ltl.specs.Check.{ltlRules, LeftOperand, RightOperand, ltlRefusal}

@@ -5,7 +5,8 @@ use mathlib.Core.Option.{Option, none}
 use mathlib.Core.List.{List, [], _∷_}
 use Prim.Native.Nat.{ℕ}
 use Rattle.trace.specs.declared.Refusal.{Refusal}
-use Rattle.table.specs.Check.{unused, signal, formula, isOperand, Rules, shapeOf, tableRefusal}
+use Rattle.table.specs.Rules.{unused, signal, formula, isOperand, Rules, shapeOf}
+use Rattle.table.specs.Check.{tableRefusal}
 
 -- What stands left and right, kind by kind. All are formulas, so that no operand is of the wrong sort.
 abbrev pub ltlRules : Rules

@@ -7,7 +7,7 @@ use lib.ListN.{length}
 use Rattle.logic.specs.Letter.{signals}
 use Rattle.table.specs.declared.Checked.{Checked}
 use Rattle.table.specs.Node.{count, kindAt, leftAt, rightAt}
-use Rattle.table.specs.Check.{unused, shapeOf}
+use Rattle.table.specs.Rules.{unused, shapeOf}
 use Rattle.ltl.specs.Check.{ltlRules, LeftOperand, RightOperand, ltlRefusal}
 use Rattle.ltl.specs.Answer.{LtlChecks}
 

@@ -11,8 +11,10 @@ use lib.Seq.{sets}
 use lib.Dec.{T, ltb}
 use Rattle.trace.specs.declared.Refusal.{Refusal}
 use Rattle.table.specs.Node.{Node, node}
-use Rattle.table.specs.Answer.{refused, checked}
-use Rattle.table.specs.Check.{known, shapeOf, nodeRefusal}
+use Rattle.trace.specs.Refusal.{refused}
+use Rattle.table.specs.Answer.{checked}
+use Rattle.table.specs.Rules.{known, shapeOf}
+use Rattle.table.specs.Check.{nodeRefusal}
 use Rattle.table.specs.declared.Checked.{Checked}
 use Rattle.table.specs.declared.Checked.the-variants as Checked
 use Rattle.table.proofs.CheckLaw.{unless-none, accepted, was-refused, Fits, places-fit}

@@ -8,8 +8,8 @@ use lib.Seq.{sets}
 use lib.Dec.{ltb}
 use Rattle.trace.specs.declared.Refusal.{Refusal}
 use Rattle.table.specs.Node.{Node}
-use Rattle.table.specs.Answer.{refused}
-use Rattle.table.specs.Check.{unless, nodeRefusal}
+use Rattle.trace.specs.Refusal.{refused, unless}
+use Rattle.table.specs.Check.{nodeRefusal}
 use Rattle.ltl.specs.Check.{ltlRules}
 use Rattle.node_lines.specs.Spelling.{nodeLine}
 use Rattle.node_lines.specs.declared.NodeLine.{NodeLine}

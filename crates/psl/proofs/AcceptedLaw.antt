@@ -9,7 +9,8 @@ use lib.ListN.{length}
 use borrow.Author.Tests.{ltb-true, ltb-false}
 use Rattle.logic.specs.Letter.{signals}
 use Rattle.table.specs.Node.{count, kindAt, leftAt, rightAt}
-use Rattle.table.specs.Check.{boolean, formula, isBoolean, tableRefusal}
+use Rattle.table.specs.Rules.{boolean, formula}
+use Rattle.table.specs.Check.{isBoolean, tableRefusal}
 use Rattle.table.proofs.CheckLaw.{Fits, sort-is, table-sized, kind-in, left-fits, right-fits}
 use Rattle.logic.specs.Formula.{btrue, var, bnot, band, weak, strong, fnot, fand, next, until, abort}
 use Rattle.psl.specs.Table.{asBoolean, asFormula}

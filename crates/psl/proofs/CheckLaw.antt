@@ -13,9 +13,10 @@ use lib.Seq.{getD-set-same, getD-set-other}
 use borrow.Author.Tests.{eq-eqb, ne-eqb, eqb-true, ltb-true, not-true}
 use Rattle.trace.specs.declared.Refusal.{Refusal}
 use Rattle.table.specs.declared.Place.{Place}
-use Rattle.table.specs.Answer.{refused}
+use Rattle.trace.specs.Refusal.{refused, lowest}
 use Rattle.table.specs.Node.{count, kindAt, leftAt, rightAt}
-use Rattle.table.specs.Check.{Use, unused, signal, operand, shapeOf, sortFits, lengthFits, isBoolean, refusalAt, lowest, tableRefusal}
+use Rattle.table.specs.Rules.{Use, unused, signal, operand, shapeOf}
+use Rattle.table.specs.Check.{sortFits, lengthFits, isBoolean, refusalAt, tableRefusal}
 use Rattle.table.specs.Inner.Place.{coded, codedRules, operandOr, bound, lowFits, allFit, Codes}
 use Rattle.table.proofs.CheckLaw.{both-true, unless-none, or-none, Fits, Sound, node-none, node-sound, table-sound, sized, lowest-zero, lowest-next, lowest-some, none-below}
 use Rattle.psl.specs.Check.{pslRules, one, names, namesAt, uses, useRefusal, rootRefusal, treeRefusal, pslRefusal, total}

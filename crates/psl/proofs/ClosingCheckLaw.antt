@@ -13,7 +13,8 @@ use lib.ListN.{length}
 use lib.Dec.{eqb, ltb}
 use Rattle.logic.specs.Letter.{signals}
 use Rattle.table.specs.Node.{Node, node, numbersOf, count, _▸_, last}
-use Rattle.table.specs.Check.{Use, operand, unused, shapeOf, isBoolean, tableRefusal}
+use Rattle.table.specs.Rules.{Use, operand, unused, shapeOf}
+use Rattle.table.specs.Check.{isBoolean, tableRefusal}
 use Rattle.table.proofs.NodeLaw.{length-more}
 use Rattle.table.proofs.CheckLaw.{either-false, Fits, none-refused}
 use Rattle.table.proofs.PassesLaw.{nodeOf, node-old, node-new, isBool, Passes, PassFrom, pass-join, pass-more, count-numbers, node-numbers, sort-numbers, nodes-pass}

@@ -6,7 +6,8 @@ use mathlib.Core.List.{List}
 use mathlib.Core.Option.{none}
 use native.Mathlib.Omega.{arith}
 use Rattle.table.specs.Node.{node, count, kindAt, leftAt, rightAt, nodeAt}
-use Rattle.table.specs.Check.{Use, unused, signal, operand, shapeOf, booleanKind, isBoolean, tableRefusal}
+use Rattle.table.specs.Rules.{Use, unused, signal, operand, shapeOf, booleanKind}
+use Rattle.table.specs.Check.{isBoolean, tableRefusal}
 use Rattle.table.proofs.CheckLaw.{Fits, sort-is, kind-in, left-fits, right-fits}
 use Rattle.table.proofs.KindLaw.{_⨾_, each}
 use Rattle.table.proofs.ValueLaw.{Same, Local, root-value, value-of}

@@ -9,7 +9,8 @@ use native.Mathlib.Omega.{arith}
 use native.Mathlib.Nat.{add-mul}
 use lib.Dec.{eqb}
 use Rattle.table.specs.Node.{node, count, kindAt, leftAt, rightAt}
-use Rattle.table.specs.Check.{Use, unused, signal, operand, isOperand, shapeOf, tableRefusal}
+use Rattle.table.specs.Rules.{Use, unused, signal, operand, isOperand, shapeOf}
+use Rattle.table.specs.Check.{tableRefusal}
 use Rattle.table.proofs.CheckLaw.{fit-below, kind-in, table-sized, table-sound}
 use Rattle.table.proofs.KindLaw.{_⨾_, each}
 use Rattle.psl.proofs.SumLaw.{total-same, total-add, total-zero, total-one, total-ones}

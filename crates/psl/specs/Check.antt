@@ -5,9 +5,10 @@ use mathlib.Core.List.{List, [], _∷_}
 use Prim.Native.Nat.{ℕ, zero, suc, _+_, _-_}
 use lib.Dec.{eqb}
 use Rattle.trace.specs.declared.Refusal.{Refusal}
-use Rattle.table.specs.Answer.{refused}
+use Rattle.trace.specs.Refusal.{refused, unless, orElse, lowest}
 use Rattle.table.specs.Node.{count, kindAt, leftAt, rightAt}
-use Rattle.table.specs.Check.{Use, unused, signal, operand, boolean, formula, Rules, shapeOf, isBoolean, unless, orElse, lowest, tableRefusal}
+use Rattle.table.specs.Rules.{Use, unused, signal, operand, boolean, formula, Rules, shapeOf}
+use Rattle.table.specs.Check.{isBoolean, tableRefusal}
 
 -- How many kinds, the first, are Booleans; the others are formulas.
 abbrev pub booleanKinds : ℕ

@@ -14,9 +14,11 @@ use Rattle.logic.specs.Letter.{signals}
 use Rattle.trace.specs.declared.Refusal.{Refusal}
 use Rattle.table.specs.declared.Checked.{Checked}
 use Rattle.table.specs.declared.Checked.the-variants.{Accepted, Refused}
-use Rattle.table.specs.Answer.{refused, checked}
+use Rattle.trace.specs.Refusal.{refused, unless, orElse, lowest}
+use Rattle.table.specs.Answer.{checked}
 use Rattle.table.specs.Node.{node, count, kindAt, leftAt, rightAt}
-use Rattle.table.specs.Check.{Use, unused, signal, operand, Sorts, Rules, isOperand, known, shapeOf, unusedFits, signalFits, operandFits, sortFits, lengthFits, unless, sortRefusal, placesRefusal, nodeRefusal, isBoolean, refusalAt, orElse, lowest, tableRefusal}
+use Rattle.table.specs.Rules.{Use, unused, signal, operand, Sorts, Rules, isOperand, known, shapeOf}
+use Rattle.table.specs.Check.{unusedFits, signalFits, operandFits, sortFits, lengthFits, sortRefusal, placesRefusal, nodeRefusal, isBoolean, refusalAt, tableRefusal}
 use Rattle.table.specs.Inner.Place.{bound, lowFits, sortsFit, allFit}
 
 -- ── Tests and answers ──

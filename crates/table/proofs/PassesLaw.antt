@@ -10,7 +10,8 @@ use borrow.Author.Tests.{eq-eqb, lt-ltb, le-leb}
 use lib.ListN.{length, getD, List·getD-append}
 use lib.Seq.{getD-at}
 use Rattle.table.specs.Node.{Node, node, numbersOf, count, kindAt, leftAt, rightAt, nodeAt, _▸_}
-use Rattle.table.specs.Check.{Rules, shapeOf, booleanKind, lengthFits, isBoolean, refusalAt, tableRefusal}
+use Rattle.table.specs.Rules.{Rules, shapeOf, booleanKind}
+use Rattle.table.specs.Check.{lengthFits, isBoolean, refusalAt, tableRefusal}
 use Rattle.table.proofs.NodeLaw.{nodes-numbers, length-numbers, length-more, node-at}
 use Rattle.table.proofs.CheckLaw.{Fits, fit-below, fits-same, Sound, node-none, none-refused, refused-none}
 

@@ -17,9 +17,11 @@ use Rattle.table.specs.declared.Numbers.{Numbers as CodeNumbers}
 use Rattle.table.specs.declared.Rules.{Rules as CodeRules}
 use Rattle.table.specs.declared.Checked.{Checked}
 use Rattle.table.specs.declared.Checked.the-variants.{Refused}
-use Rattle.table.specs.Answer.{refused, checked}
+use Rattle.trace.specs.Refusal.{refused, unless}
+use Rattle.table.specs.Answer.{checked}
 use Rattle.table.specs.Node.{node}
-use Rattle.table.specs.Check.{Use, unused, signal, operand, Sorts, Rules, known, shapeOf, booleanKind, unusedFits, signalFits, operandFits, sortFits, unless, sortRefusal, placesRefusal, nodeRefusal}
+use Rattle.table.specs.Rules.{Use, unused, signal, operand, Sorts, Rules, known, shapeOf, booleanKind}
+use Rattle.table.specs.Check.{unusedFits, signalFits, operandFits, sortFits, sortRefusal, placesRefusal, nodeRefusal}
 use Rattle.table.specs.Inner.Place.{coded, codedShape, operandOr, bound, mostKinds, shapes, booleans, sortNumber, Numbered, codedNumbers, Codes}
 
 -- ── Places ──

@@ -7,7 +7,8 @@ use mathlib.Core.Option.{none}
 use native.Mathlib.Omega.{arith}
 use lib.ListN.{length, take}
 use Rattle.table.specs.Node.{Node, node, nodesOf, count, kindAt, leftAt, rightAt, nodeAt, look, grow, root, valueAt}
-use Rattle.table.specs.Check.{Use, Rules, isOperand, shapeOf, tableRefusal}
+use Rattle.table.specs.Rules.{Use, Rules, isOperand, shapeOf}
+use Rattle.table.specs.Check.{tableRefusal}
 use Rattle.table.proofs.NodeLaw.{length-grow, length-nodes, node-at, look-take, value-node}
 use Rattle.table.proofs.CheckLaw.{table-sound, kind-in, fit-below}
 

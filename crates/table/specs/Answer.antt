@@ -1,13 +1,8 @@
--- Refusals, and the answer of a check.
+-- The answer of a check.
 use mathlib.Core.Option.{Option, none, some}
-use Prim.Native.Nat.{ℕ}
 use Rattle.trace.specs.declared.Refusal.{Refusal}
 use Rattle.table.specs.declared.Checked.{Checked}
 use Rattle.table.specs.declared.Checked.the-variants.{Accepted, Refused}
-
--- A refusal is its number.
-abbrev pub refused : ℕ → Refusal
-refused n = record { 0 = n }
 
 -- The first refusal that applies, if one does, decides.
 abbrev pub checked : Option Refusal → Checked

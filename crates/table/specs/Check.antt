@@ -1,66 +1,15 @@
 -- What both checks share: the first refusal that applies to a table, by its rules.
-use mathlib.Core.Bool.{Bool, true, false, _&&_, Bool·beq}
+use mathlib.Core.Bool.{Bool, true, _&&_, Bool·beq}
 use mathlib.Core.Option.{Option, none, some}
 use mathlib.Core.List.{List}
-use Prim.Native.Nat.{ℕ, zero, suc, _/_, _%_}
+use Prim.Native.Nat.{ℕ, _/_, _%_}
 use lib.Dec.{eqb, ltb, leb}
-use lib.ListN.{length, getD}
+use lib.ListN.{length}
 use Rattle.logic.specs.Letter.{signals}
 use Rattle.trace.specs.declared.Refusal.{Refusal}
 use Rattle.table.specs.Node.{Node, node, count, kindAt, leftAt, rightAt, nodeAt}
-use Rattle.table.specs.Answer.{refused}
-
--- ── Rules ──
-
--- What a place of a node holds: 0, or a signal, or the number of an operand, which is a Boolean or a formula.
-pub data Use : Type 0 where
-  unused : Use
-  signal : Use
-  operand : Bool → Use
-
-abbrev pub boolean : Use
-boolean = operand true
-
-abbrev pub formula : Use
-formula = operand false
-
-abbrev pub isOperand : Use → Bool
-isOperand unused = false
-isOperand signal = false
-isOperand (operand b) = true
-
--- The numbers of the refusals, each by what is wrong.
-pub record Numbers : Type 0 where
-  pub length : ℕ
-  pub kind : ℕ
-  pub unused : ℕ
-  pub signal : ℕ
-  pub operand : ℕ
-
--- Where there are two sorts of nodes: how many kinds, the first, are Booleans, and the refusal of an operand that is of the wrong sort.
-pub record Sorts : Type 0 where
-  pub booleans : ℕ
-  pub number : ℕ
-
--- What stands left and right, kind by kind; the most nodes; the refusals; the sorts, if there are two.
-pub record Rules : Type 0 where
-  pub kinds : List (Use × Use)
-  pub most : ℕ
-  pub numbers : Numbers
-  pub sorts : Option Sorts
-
--- A number that is a kind of the table.
-abbrev pub known : Rules → ℕ → Bool
-known R k = ltb k (length (R .kinds))
-
--- What its places hold.
-abbrev pub shapeOf : Rules → ℕ → Use × Use
-shapeOf R k = getD (R .kinds) k (unused, unused)
-
--- A kind that is a Boolean.
-abbrev pub booleanKind : Option Sorts → ℕ → Bool
-booleanKind none k = false
-booleanKind (some s) k = ltb k (s .booleans)
+use Rattle.trace.specs.Refusal.{refused, unless, lowest}
+use Rattle.table.specs.Rules.{Use, unused, signal, operand, Sorts, Rules, known, shapeOf, booleanKind}
 
 -- ── The tests of a place that holds n ──
 
@@ -94,11 +43,6 @@ sortFits (operand b) s = Bool·beq s b
 abbrev pub lengthFits : ℕ → ℕ → Bool
 lengthFits most n = (eqb (n % 3) 0 && ltb 0 (n / 3)) && leb (n / 3) most
 
--- The refusal x unless a test is passed, then o.
-abbrev pub unless : Bool → Refusal → Option Refusal → Option Refusal
-unless true x o = o
-unless false x o = some x
-
 -- The sorts of a node's operands, Booleans if lb and rb.
 abbrev pub sortRefusal : Option Sorts → Use × Use → Bool → Bool → Option Refusal
 sortRefusal none h lb rb = none
@@ -125,15 +69,6 @@ isBoolean R t i = booleanKind (R .sorts) (kindAt t i)
 
 unfoldable pub refusalAt : Rules → List ℕ → ℕ → Option Refusal
 refusalAt R t i = nodeRefusal R i (nodeAt t i) (isBoolean R t (leftAt t i)) (isBoolean R t (rightAt t i))
-
--- The first refusal of two, and the first of those for the numbers below n.
-abbrev pub orElse : Option Refusal → Option Refusal → Option Refusal
-orElse none o = o
-orElse (some x) o = some x
-
-unfoldable pub lowest : (ℕ → Option Refusal) → ℕ → Option Refusal
-lowest f zero = none
-lowest f (suc n) = orElse (lowest f n) (f n)
 
 -- The length first, then the lowest node that is refused.
 unfoldable pub tableRefusal : Rules → List ℕ → Option Refusal

@@ -8,8 +8,10 @@ ghost use Prim.Native.Nat.{_<_};
 ghost use lib.ListN.{getD};
 ghost use Rattle.trace.specs.declared.Refusal.{Refusal};
 ghost use Rattle.table.specs.Node.{node};
-ghost use Rattle.table.specs.Answer.{refused, checked};
-ghost use Rattle.table.specs.Check.{Use, Rules as TableRules, lengthFits, unusedFits, signalFits, operandFits, sortFits, unless, placesRefusal, nodeRefusal, refusalAt};
+ghost use Rattle.trace.specs.Refusal.{refused, unless};
+ghost use Rattle.table.specs.Answer.{checked};
+ghost use Rattle.table.specs.Rules.{Use, Rules as TableRules};
+ghost use Rattle.table.specs.Check.{lengthFits, unusedFits, signalFits, operandFits, sortFits, placesRefusal, nodeRefusal, refusalAt};
 ghost use Rattle.table.specs.Inner.Place.{coded, codedShape, codedNumbers, bound, lowFits, Numbered, Codes};
 
 // The number of a node, counted from 0 along a table: never a point of time.

@@ -5,7 +5,7 @@ use mathlib.Core.Option.{none}
 use Prim.Native.Nat.{ℕ}
 use native.Mathlib.Omega.{arith}
 use Rattle.trace.specs.declared.Refusal.{Refusal}
-use Rattle.table.specs.Check.{unless, orElse}
+use Rattle.trace.specs.Refusal.{unless, orElse}
 use Rattle.table.proofs.CheckLaw.{some-none}
 
 -- Two tests that are passed.

@@ -5,7 +5,7 @@ use mathlib.Core.List.{List}
 use Prim.Native.Nat.{ℕ, suc, _≤_, _<_}
 use lib.ListN.{length, take}
 use Rattle.trace.specs.declared.Refusal.{Refusal}
-use Rattle.table.specs.Answer.{refused}
+use Rattle.trace.specs.Refusal.{refused}
 use Rattle.text.specs.Limits.{mostBytes}
 
 -- Line s breaks at place p, counted from 0: some line has its first p bytes, and no line has its first p + 1. Where p is the length of s it is only

@@ -9,13 +9,14 @@ use lib.ListN.{length, drop}
 use denote.Ref.{RefT, ptr, now}
 use Rattle.logic.specs.Trace.{letterAt}
 use Rattle.trace.specs.Limits.{letterBytes}
+use Rattle.trace.specs.Refusal.{refused}
 use Rattle.trace.specs.declared.Found.{Found}
 use Rattle.trace.specs.declared.Found.the-variants.{Letter, Refused}
 
 -- The letter of a moment, or refusal 25.
 abbrev pub found : Option ℕ → Found
 found (some x) = Letter x
-found none = Refused (record { 0 = 25 })
+found none = Refused (refused 25)
 
 abbrev pub LetterIs : List ℕ → List ℕ → ℕ → Found → Type 0
 LetterIs lead loop m r = r ≡ found (letterAt lead loop m)

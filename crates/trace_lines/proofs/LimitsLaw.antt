@@ -9,7 +9,7 @@ use lib.Dec.{leb}
 use lib.ListN.{length}
 use Rattle.trace.specs.Limits.{mostLetters}
 use Rattle.logic.specs.Trace.{size}
-use Rattle.table.specs.Answer.{refused}
+use Rattle.trace.specs.Refusal.{refused}
 use Rattle.text.proofs.LimitsLaw.{passed, third}
 use Rattle.trace_lines.specs.Spelling.{Trace}
 use Rattle.trace_lines.specs.TraceAnswer.{largeLetter, traceLimits, traceRefusal}

@@ -9,7 +9,7 @@ use borrow.Author.Tests.{lt-leb, le-leb}
 use lib.ListN.{length, drop}
 use lib.Seq.{sets, drop-length}
 use lib.Dec.{leb}
-use Rattle.table.specs.Answer.{refused}
+use Rattle.trace.specs.Refusal.{refused}
 use Rattle.text.specs.Text.{text}
 use Rattle.trace_lines.specs.Spelling.{Trace, traceLine, lineOfTrace}
 use Rattle.text.specs.Limits.{mostBytes}

@@ -10,8 +10,7 @@ use Rattle.logic.specs.Letter.{signals}
 use Rattle.trace.specs.Limits.{mostLetters}
 use Rattle.logic.specs.Trace.{size}
 use Rattle.trace.specs.declared.Refusal.{Refusal}
-use Rattle.table.specs.Answer.{refused}
-use Rattle.table.specs.Check.{unless, orElse}
+use Rattle.trace.specs.Refusal.{refused, unless, orElse}
 use Rattle.trace_lines.specs.Spelling.{Trace, lineOfTrace}
 use Rattle.text.specs.Limits.{front}
 use Rattle.text.specs.Reading.{Takes, Refuses}

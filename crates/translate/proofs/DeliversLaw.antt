@@ -10,9 +10,8 @@ use lib.ListN.{length, take, drop}
 use lib.Seq.{sets-eq, take-at}
 use borrow.Author.Tests.{le-leb, lt-leb, leb-true}
 use Rattle.trace.specs.declared.Refusal.{Refusal}
-use Rattle.table.specs.Answer.{refused}
+use Rattle.trace.specs.Refusal.{refused, unless, orElse}
 use Rattle.table.specs.Node.{node, _▸_, count, kindAt}
-use Rattle.table.specs.Check.{unless, orElse}
 use Rattle.logic.specs.Formula.{Formula}
 use Rattle.psl.specs.Size.{weigh}
 use Rattle.psl.specs.Table.{formulaOf}

@@ -8,7 +8,8 @@ use native.Mathlib.Omega.{arith}
 use lib.ListN.{length}
 use Rattle.logic.specs.Letter.{signals}
 use Rattle.table.specs.Node.{Node, node, count, kindAt, leftAt, rightAt, _▸_, last}
-use Rattle.table.specs.Check.{operand, unused, signal, shapeOf, tableRefusal}
+use Rattle.table.specs.Rules.{operand, unused, signal, shapeOf}
+use Rattle.table.specs.Check.{tableRefusal}
 use Rattle.table.proofs.NodeLaw.{length-more}
 use Rattle.table.proofs.CheckLaw.{Fits, table-sound, kind-in}
 use Rattle.table.proofs.PassesLaw.{PassFrom, pass-none, pass-more, nodes-pass}

@@ -6,8 +6,7 @@ use Prim.Native.Nat.{ℕ, _*_, _≤_}
 use lib.Dec.{leb}
 use lib.ListN.{length, take, drop}
 use Rattle.trace.specs.declared.Refusal.{Refusal}
-use Rattle.table.specs.Answer.{refused}
-use Rattle.table.specs.Check.{unless, orElse}
+use Rattle.trace.specs.Refusal.{refused, unless, orElse}
 use Rattle.logic.specs.Formula.{Formula}
 use Rattle.psl.specs.Table.{formulaOf}
 use Rattle.psl.specs.Check.{pslRefusal}

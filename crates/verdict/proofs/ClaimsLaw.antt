@@ -7,7 +7,7 @@ use Prim.Native.Nat.{ℕ, _<_}
 use borrow.Author.Tests.{lt-ltb}
 use Rattle.logic.specs.Trace.{size}
 use Rattle.trace.specs.declared.Refusal.{Refusal}
-use Rattle.table.specs.Check.{orElse}
+use Rattle.trace.specs.Refusal.{orElse}
 use Rattle.table.proofs.CheckLaw.{some-none}
 use Rattle.logic.specs.Meaning.{HoldsOn}
 use Rattle.psl.specs.Table.{formulaOf}

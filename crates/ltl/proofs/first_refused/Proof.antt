@@ -6,7 +6,9 @@ use mathlib.Core.Option.{none}
 use native.Mathlib.Omega.{arith}
 use borrow.Author.Tests.{not-true, not-false}
 use Rattle.table.specs.Node.{count, kindAt}
-use Rattle.table.specs.Check.{shapeOf, refusalAt, lowest}
+use Rattle.table.specs.Rules.{shapeOf}
+use Rattle.table.specs.Check.{refusalAt}
+use Rattle.trace.specs.Refusal.{lowest}
 use Rattle.table.proofs.CheckLaw.{Fast, fast-none, fast-some, unknown-some, lowest-zero, lowest-next}
 use Rattle.table.proofs.PlaceLaw.{shape-coded}
 use Rattle.ltl.specs.Check.{ltlRules}

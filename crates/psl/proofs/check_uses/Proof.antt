@@ -6,7 +6,7 @@ use mathlib.Core.Option.{none}
 use native.Mathlib.Omega.{arith}
 use borrow.Author.Tests.{lt-ltb, le-ltb}
 use Rattle.table.specs.Answer.{checked}
-use Rattle.table.specs.Check.{lowest}
+use Rattle.trace.specs.Refusal.{lowest}
 use Rattle.table.proofs.CheckLaw.{Sized, sized, lowest-zero, lowest-next}
 use Rattle.psl.specs.Check.{pslRules, useRefusal}
 use Rattle.psl.proofs.CheckLaw.{in-counts, used-once, misused, uses-refused, root-refused, root-fine}

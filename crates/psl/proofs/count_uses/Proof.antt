@@ -8,7 +8,8 @@ use native.Mathlib.Omega.{arith}
 use lib.ListN.{length, getD}
 use borrow.Author.Tests.{not-true, not-false}
 use Rattle.table.specs.Node.{count, kindAt}
-use Rattle.table.specs.Check.{Use, shapeOf, refusalAt}
+use Rattle.table.specs.Rules.{Use, shapeOf}
+use Rattle.table.specs.Check.{refusalAt}
 use Rattle.table.specs.Inner.Place.{codedShape, codedRules, mostKinds}
 use Rattle.table.proofs.CheckLaw.{Fast, fast-none, fast-some, unknown-some, sized}
 use Rattle.table.proofs.PlaceLaw.{noShape, left-coded, right-coded, shape-coded}

@@ -3,7 +3,7 @@ use borrow.Author.Needs.{needs}
 use mathlib.Core.Path.{_≡_, sym, _∙_}
 use mathlib.Core.Bool.{true}
 use borrow.Author.Tests.{not-true, not-false}
-use Rattle.table.specs.Check.{Use}
+use Rattle.table.specs.Rules.{Use}
 use Rattle.table.specs.Inner.Place.{codedShape}
 use Rattle.table.proofs.PlaceLaw.{left-coded, right-coded}
 use Rattle.psl.proofs.CheckLaw.{BothLow, not-low, left-in, right-in, low-sorts}

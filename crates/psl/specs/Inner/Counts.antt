@@ -7,7 +7,9 @@ use Prim.Native.Nat.{ℕ, _+_, _≤_, _<_}
 use lib.ListN.{length, getD}
 use Rattle.table.specs.Node.{count}
 use Rattle.table.specs.declared.Place.{Place}
-use Rattle.table.specs.Check.{Use, lengthFits, refusalAt, lowest}
+use Rattle.table.specs.Rules.{Use}
+use Rattle.table.specs.Check.{lengthFits, refusalAt}
+use Rattle.trace.specs.Refusal.{lowest}
 use Rattle.table.specs.Inner.Place.{coded, operandOr}
 use Rattle.psl.specs.Check.{pslRules, names, namesAt, total}
 

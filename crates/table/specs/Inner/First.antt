@@ -4,7 +4,9 @@ use mathlib.Core.Option.{none}
 use mathlib.Core.List.{List}
 use Prim.Native.Nat.{ℕ, _≤_, _<_}
 use Rattle.table.specs.Node.{count}
-use Rattle.table.specs.Check.{Rules, refusalAt, lowest}
+use Rattle.table.specs.Rules.{Rules}
+use Rattle.table.specs.Check.{refusalAt}
+use Rattle.trace.specs.Refusal.{lowest}
 
 -- Node i is the lowest that is refused, or i is how many nodes there are, and none is.
 pub record FirstRefused (R : Rules) (t : List ℕ) (i : ℕ) : Type 0 where

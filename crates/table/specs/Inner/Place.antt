@@ -12,7 +12,8 @@ use Rattle.table.specs.declared.Place.{Place}
 use Rattle.table.specs.declared.Shape.{Shape}
 use Rattle.table.specs.declared.Numbers.{Numbers as CodeNumbers}
 use Rattle.table.specs.declared.Rules.{Rules as CodeRules}
-use Rattle.table.specs.Check.{Use, unused, signal, operand, Sorts, Rules, sortFits}
+use Rattle.table.specs.Rules.{Use, unused, signal, operand, Sorts, Rules}
+use Rattle.table.specs.Check.{sortFits}
 
 -- ── Places ──
 
