@@ -2,7 +2,7 @@
 use mathlib.Core.Path.{_≡_, refl, ap, sym, subst, _∙_}
 use mathlib.Core.Option.{Option, none, some}
 use mathlib.Core.List.{List}
-use Prim.Native.Nat.{ℕ, _*_, _≤_}
+use Prim.Native.Nat.{ℕ, suc, _+_, _*_, _-_, _≤_}
 use native.Mathlib.Omega.{arith}
 use borrow.Author.Tests.{le-leb}
 use lib.ListN.{length, take, replicate, length-replicate}
@@ -42,9 +42,12 @@ use Rattle.text.proofs.ReadingLaw.{takes-by, refuses-by, front-take, front-leng
 use Rattle.formula_lines.proofs.LimitsLaw.{limits-few, limits-accepted, formula-room}
 use Rattle.trace_lines.proofs.LimitsLaw.{limits-short, trace-room}
 use Rattle.formula_lines.proofs.TableLaw.{table-formula}
-use Rattle.answers.specs.Answer.{Tells, LaterAnswer}
+use Rattle.text.specs.Inner.Writer.{Wrote}
+use Rattle.printing.specs.Printed.{refusedText, traceText}
+use Rattle.answers.specs.Answer.{Tells, LaterAnswer, laterText}
 use Rattle.answers.specs.Inner.{TablesOf, Accepted, FirstAnswer}
 use Rattle.answers.specs.declared.First.the-variants as First
+use Rattle.answers.specs.declared.Later.{Later}
 use Rattle.answers.specs.declared.Later.the-variants as Later
 
 -- ── The tables of a formula within the limits ──
@@ -165,3 +168,14 @@ module _ (line l m : List ℕ) where
             empty = λ h. refused-by (LtlHoldsOn (treeOf ltl) (t .lead) (t .loop)) w (refused 16) (ltl-empty ltl (t .lead) (t .loop) ok′ short (omega arith)) q′;
           },
         )
+
+-- The text put for either answer, of which k is the trace line's number.
+module _ {out out′ : List ℕ} {at next i k : ℕ} {a : Later} where
+  pub refused-written : {x : Refusal} → a ≡ Later.Refused x → k ≡ i → Wrote (refusedText (k + 1) x) out out′ at next → Wrote (laterText i a) out out′ at next
+  refused-written {x} e n w =
+      let line : k + 1 ≡ suc i = omega arith in
+      subst (λ (y : Later). Wrote (laterText i y) out out′ at next) (sym e) (subst (λ (j : ℕ). Wrote (refusedText j x) out out′ at next) line w)
+
+  pub judged-written : {v w : Verdict} → a ≡ Later.Verdicts v w → k ≡ i → Wrote (traceText k v w) out out′ at next → Wrote (laterText i a) out out′ at next
+  judged-written {v} {w} e n h =
+      subst (λ (y : Later). Wrote (laterText i y) out out′ at next) (sym e) (subst (λ (j : ℕ). Wrote (traceText j v w) out out′ at next) n h)

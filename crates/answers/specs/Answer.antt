@@ -1,7 +1,7 @@
--- What a trace line of a run is answered.
+-- What a trace line of a run is answered, and the answer's text.
 use mathlib.Core.Path.{_≡_}
 use mathlib.Core.List.{List}
-use Prim.Native.Nat.{ℕ, _<_}
+use Prim.Native.Nat.{ℕ, suc, _<_}
 use Rattle.logic.specs.Trace.{size}
 use Rattle.table.specs.Answer.{refused}
 use Rattle.logic.specs.Formula.{Formula}
@@ -14,6 +14,7 @@ use Rattle.verdict.specs.declared.Verdict.the-variants as Verdict
 use Rattle.text.specs.Reading.{Takes, Refuses}
 use Rattle.trace_lines.specs.Spelling.{Trace, lineOfTrace}
 use Rattle.trace_lines.specs.TraceAnswer.{traceLimits}
+use Rattle.printing.specs.Printed.{refusedText, traceText}
 use Rattle.answers.specs.declared.Later.{Later}
 use Rattle.answers.specs.declared.Later.the-variants as Later
 
@@ -34,3 +35,12 @@ pub record Judged (f : Formula) (t : Trace) (v w : Verdict) : Type 0 where
 abbrev pub LaterAnswer : Formula → List ℕ → Later → Type 0
 LaterAnswer f line (Later.Verdicts v w) = (t : Trace) × Takes lineOfTrace traceLimits line t × Judged f t v w
 LaterAnswer f line (Later.Refused x) = Refuses lineOfTrace traceLimits line x
+
+-- What the answer to trace line i prints; it is line i + 1 of the input.
+abbrev pub laterText : ℕ → Later → List ℕ
+laterText i (Later.Verdicts v w) = traceText i v w
+laterText i (Later.Refused x) = refusedText (suc i) x
+
+-- No answer to a trace line prints more bytes.
+abbrev pub shortest : ℕ
+shortest = 60

@@ -22,11 +22,10 @@ use Rattle.formula_lines.proofs.FormulaLaw.{formula-injective}
 use Rattle.run.specs.Claims.{Claims}
 use Rattle.run.specs.Input.{inputLines}
 use Rattle.printing.specs.Printed.{refusedText, verdictText, tableText}
-use Rattle.answers.specs.Answer.{Tells, Judged}
+use Rattle.answers.specs.Answer.{Tells, Judged, laterText}
 use Rattle.answers.proofs.ClaimsLaw.{later-alone}
-use Rattle.run.specs.Whole.{laterText, PrintsTraces, Prints}
+use Rattle.run.specs.Whole.{PrintsTraces, Prints}
 use Rattle.answers.specs.declared.Later.{Later}
-use Rattle.answers.specs.declared.Later.the-variants as Later
 use Rattle.run.proofs.StreamLaw.{turned}
 
 -- ── Verdicts ──

@@ -12,25 +12,22 @@ use lib.Seq.{take-suc, take-all}
 use Rattle.trace.specs.declared.Refusal.{Refusal}
 use Rattle.table.specs.Node.{_▸_}
 use Rattle.logic.specs.Formula.{Formula}
-use Rattle.verdict.specs.declared.Verdict.{Verdict}
 use Rattle.text.specs.Inner.Writer.{Wrote}
-use Rattle.printing.specs.Printed.{refusedText, traceText, tableText}
-use Rattle.answers.specs.Answer.{LaterAnswer}
+use Rattle.printing.specs.Printed.{refusedText, tableText}
+use Rattle.answers.specs.Answer.{shortest}
 use Rattle.run.specs.Whole.{Runs}
 use Rattle.answers.specs.Inner.{TablesOf, FirstAnswer}
-use Rattle.run.specs.Inner.{Going, At, longest, shortest, mostBlock, Within, Gathered, Remembers, FirstDone, LaterDone, LineDone, Keeps, Fed, Finished, Ends, Advanced, start, Turns, no-turn, one-turn, idle}
+use Rattle.run.specs.Inner.{Going, At, longest, mostBlock, Within, Gathered, Remembers, FirstDone, LaterDone, LineDone, Keeps, Fed, Finished, Ends, Advanced, start, Turns, no-turn, one-turn, idle}
 use Rattle.answers.specs.declared.First.{First}
 use Rattle.answers.specs.declared.First.the-variants as First
-use Rattle.answers.specs.declared.Later.{Later}
-use Rattle.answers.specs.declared.Later.the-variants as Later
 use Rattle.run.specs.declared.State.{State}
 use Rattle.run.proofs.ProgressLaw.{going-start, going-same, going-byte, at-first, going-later, end-empty, end-open}
 
 -- ── Bounds ──
 
 -- The same state, with other bytes gathered.
-pub within-as : {line psl ltl out : List ℕ} (s r : State) → Within s line psl ltl out → r .number ≡ s .number → r .filled ≡ s .filled → r .nodes ≡ s .nodes
-    → r .size ≡ s .size → (r .more ≡ true → (s .more ≡ true) × (r .failed ≡ false)) → Within r line psl ltl out
+pub within-as : {line psl ltl out : List ℕ} (s r : State) → Within s line psl ltl out → r .number ≡ s .number → r .filled ≡ s .filled → r .«psl_nodes» ≡ s .«psl_nodes»
+    → r .«ltl_nodes» ≡ s .«ltl_nodes» → (r .more ≡ true → (s .more ≡ true) × (r .failed ≡ false)) → Within r line psl ltl out
 within-as s r w number filled nodes size more =
     record {
       lineRoom = w .lineRoom;
@@ -38,8 +35,8 @@ within-as s r w number filled nodes size more =
       ltlRoom = w .ltlRoom;
       outRoom = w .outRoom;
       filled = omega (arith, w .filled);
-      nodes = omega (arith, w .nodes);
-      size = omega (arith, w .size);
+      pslNodes = omega (arith, w .pslNodes);
+      ltlNodes = omega (arith, w .ltlNodes);
       numbered = omega (arith, w .numbered);
       working = λ m. more m .1;
       stored = λ h m. rw (nodes, size) (w .stored (omega (arith, number)) (more m .0));
@@ -51,7 +48,7 @@ within-idle s w = within-as s (idle s) w refl refl refl refl (λ m. (m, w .worki
 -- ── Answers ──
 
 abbrev pub begun : ℕ → ℕ → ℕ → Bool → State
-begun n z g m = record { number = 2; filled = 0; nodes = n; size = z; gathered = g; more = m; failed = false }
+begun n z g m = record { number = 2; filled = 0; «psl_nodes» = n; «ltl_nodes» = z; gathered = g; more = m; failed = false }
 
 module _ (line out out′ psl ltl : List ℕ) (a : First) (answers : FirstAnswer line a psl ltl) (g : ℕ) where
   pub first-refused : (x : Refusal) → a ≡ First.Refused x → Wrote (refusedText 1 x) out out′ 0 g → g ≤ 60 → FirstDone line out (begun 0 0 g false) psl ltl out′
@@ -83,30 +80,16 @@ module _ (line out out′ psl ltl : List ℕ) (a : First) (answers : FirstAnswer
 pub first-few : (line psl ltl : List ℕ) (a : First) (n z : ℕ) → FirstAnswer line a psl ltl → a ≡ First.Tables n z → (n ≤ 1024) × (z ≤ 4096)
 first-few line psl ltl a n z h e = let (_, _, _, p, q) = subst (λ (y : First). FirstAnswer line y psl ltl) e h in (p, q)
 
-module _ {line psl ltl out out′ : List ℕ} (a : Later) (answers : (f : Formula) → TablesOf f psl ltl → LaterAnswer f line a) (number at next : ℕ) (h : next ≤ at + 60) where
-  pub later-refused : (x : Refusal) → 0 < number → a ≡ Later.Refused x → Wrote (refusedText number x) out out′ at next → LaterDone line psl ltl out number at out′ next
-  later-refused x pos e w =
-      let same : number ≡ suc (number - 1) = omega arith in
-      record {
-        answer = Later.Refused x;
-        answers = λ f t. subst (LaterAnswer f line) e (answers f t);
-        writes = subst (λ (k : ℕ). Wrote (refusedText k x) out out′ at next) same w;
-        short = h;
-      }
-
-  pub later-judged : (v w : Verdict) → a ≡ Later.Verdicts v w → Wrote (traceText (number - 1) v w) out out′ at next → LaterDone line psl ltl out number at out′ next
-  later-judged v w e t = record { answer = Later.Verdicts v w; answers = λ f t. subst (LaterAnswer f line) e (answers f t); writes = t; short = h }
-
 -- ── A line's end ──
 
 first-stored : (line psl ltl : List ℕ) (a : First) → FirstAnswer line a psl ltl → (r : State) → Remembers a r
-    → (r .nodes ≤ 1024) × (r .size ≤ 4096) × (r .more ≡ true → (f : Formula) × TablesOf f (take (3 * r .nodes) psl) (take (3 * r .size) ltl))
+    → (r .«psl_nodes» ≤ 1024) × (r .«ltl_nodes» ≤ 4096) × (r .more ≡ true → (f : Formula) × TablesOf f (take (3 * r .«psl_nodes») psl) (take (3 * r .«ltl_nodes») ltl))
 first-stored line psl ltl (First.Refused x) a r (m, n, z) = (omega arith, omega arith, λ h. let z : _≡_ {A = ℕ} 0 1 = cc in absurd (omega arith))
 first-stored line psl ltl (First.Tables i j) (f, _, t, p, q) r (m, n, z) = (omega arith, omega arith, λ _. (f, rw (n, z) t))
 
 -- The state after a later line.
 abbrev pub onward : State → ℕ → State
-onward s g = record { number = s .number + 1; filled = 0; nodes = s .nodes; size = s .size; gathered = g; more = true; failed = false }
+onward s g = record { number = s .number + 1; filled = 0; «psl_nodes» = s .«psl_nodes»; «ltl_nodes» = s .«ltl_nodes»; gathered = g; more = true; failed = false }
 
 module _ {line psl ltl out : List ℕ} (s : State) (w : Within s line psl ltl out) (few : s .gathered ≤ 1090040) where
   pub line-first : {psl′ ltl′ out′ : List ℕ} (r : State) → s .number ≤ 1 → s .gathered ≡ 0 → length psl′ ≡ length psl → length ltl′ ≡ length ltl → length out′ ≡ length out
@@ -120,8 +103,8 @@ module _ {line psl ltl out : List ℕ} (s : State) (w : Within s line psl ltl ou
           ltlRoom = q ∙ w .ltlRoom;
           outRoom = o ∙ w .outRoom;
           filled = omega (arith, d .filled);
-          nodes = n;
-          size = z;
+          pslNodes = n;
+          ltlNodes = z;
           numbered = omega (arith, d .number);
           working = λ _. d .works;
           stored = λ _. stored;
@@ -132,7 +115,7 @@ module _ {line psl ltl out : List ℕ} (s : State) (w : Within s line psl ltl ou
       }
 
   pub line-later : {out′ : List ℕ} (g : ℕ) → 1 < s .number → s .more ≡ true → length out′ ≡ length out
-      → LaterDone (take (s .filled) line) (take (3 * s .nodes) psl) (take (3 * s .size) ltl) out (s .number) (s .gathered) out′ g
+      → LaterDone (take (s .filled) line) (take (3 * s .«psl_nodes») psl) (take (3 * s .«ltl_nodes») ltl) out (s .number) (s .gathered) out′ g
       → LineDone line psl ltl out s (onward s g) psl ltl out′
   line-later g h m o d =
       record {
@@ -142,8 +125,8 @@ module _ {line psl ltl out : List ℕ} (s : State) (w : Within s line psl ltl ou
           ltlRoom = w .ltlRoom;
           outRoom = o ∙ w .outRoom;
           filled = omega arith;
-          nodes = w .nodes;
-          size = w .size;
+          pslNodes = w .pslNodes;
+          ltlNodes = w .ltlNodes;
           numbered = omega arith;
           working = λ _. refl;
           stored = λ _ _. w .stored h m;
@@ -160,7 +143,7 @@ module _ {line psl ltl out : List ℕ} (s : State) (w : Within s line psl ltl ou
 
 -- The state with another count of kept bytes.
 abbrev pub keeping : State → ℕ → State
-keeping s k = record { number = s .number; filled = k; nodes = s .nodes; size = s .size; gathered = s .gathered; more = s .more; failed = s .failed }
+keeping s k = record { number = s .number; filled = k; «psl_nodes» = s .«psl_nodes»; «ltl_nodes» = s .«ltl_nodes»; gathered = s .gathered; more = s .more; failed = s .failed }
 
 -- The state r after the first i bytes of a block, from s on.
 pub record Feeding (block line₀ psl₀ ltl₀ : List ℕ) (s : State) (line psl ltl out : List ℕ) (r : State) (i : ℕ) : Type 0 where
@@ -212,8 +195,8 @@ module _ {block line₀ psl₀ ltl₀ line psl ltl out : List ℕ} {s : State} (
           ltlRoom = w .ltlRoom;
           outRoom = w .outRoom;
           filled = omega (arith, q, w .lineRoom);
-          nodes = w .nodes;
-          size = w .size;
+          pslNodes = w .pslNodes;
+          ltlNodes = w .ltlNodes;
           numbered = w .numbered;
           working = w .working;
           stored = w .stored;
@@ -303,7 +286,7 @@ module _ {line psl ltl out : List ℕ} (s : State) (w : Within s line psl ltl ou
 
 -- The state at the input's end.
 abbrev pub ended : State → State
-ended s = record { number = s .number; filled = s .filled; nodes = s .nodes; size = s .size; gathered = s .gathered; more = false; failed = s .failed }
+ended s = record { number = s .number; filled = s .filled; «psl_nodes» = s .«psl_nodes»; «ltl_nodes» = s .«ltl_nodes»; gathered = s .gathered; more = false; failed = s .failed }
 
 pub never : {b : Bool} → b ≡ true → b ≡ false → ⊥
 never {b} p q = let z : _≡_ {A = ℕ} 0 1 = cc in omega arith

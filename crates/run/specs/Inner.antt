@@ -16,9 +16,9 @@ use Rattle.formula_lines.specs.FormulaAnswer.{formulaLimits}
 use Rattle.text.specs.Inner.Writer.{Wrote}
 use Rattle.run.specs.Input.{endedLines, openLine}
 use Rattle.printing.specs.Printed.{refusedText, tableText}
-use Rattle.answers.specs.Answer.{LaterAnswer}
+use Rattle.answers.specs.Answer.{LaterAnswer, laterText, shortest}
 use Rattle.answers.specs.Inner.{TablesOf, FirstAnswer}
-use Rattle.run.specs.Whole.{laterText, PrintsTraces, Runs}
+use Rattle.run.specs.Whole.{PrintsTraces, Runs}
 use Rattle.answers.specs.declared.First.{First}
 use Rattle.answers.specs.declared.First.the-variants as First
 use Rattle.answers.specs.declared.Later.{Later}
@@ -34,7 +34,7 @@ keptBytes = mostBytes + 1
 abbrev pub Told : List (List ℕ) → List ℕ → State → List ℕ → List ℕ → Type 0
 Told [] out s psl ltl = out ≡ []
 Told (line ∷ ls) out s psl ltl =
-    (f : Formula) × (rest : List ℕ) × Takes formulaLine formulaLimits line f × TablesOf f (take (3 * s .nodes) psl) (take (3 * s .size) ltl)
+    (f : Formula) × (rest : List ℕ) × Takes formulaLine formulaLimits line f × TablesOf f (take (3 * s .«psl_nodes») psl) (take (3 * s .«ltl_nodes») ltl)
     × (out ≡ tableText (emitted f) ++ rest) × PrintsTraces f 1 ls rest
 
 -- The run goes on: the bytes `read` have been taken, and the lines that ended in them printed `out`.
@@ -50,12 +50,9 @@ pub record At (read out : List ℕ) (s : State) (line psl ltl : List ℕ) : Type
 
 -- ── Bounds ──
 
--- No answer prints more bytes, and none but that to line 1 more than `shortest`.
+-- No answer to line 1 prints more bytes.
 abbrev pub longest : ℕ
 longest = 107000
-
-abbrev pub shortest : ℕ
-shortest = 60
 
 -- The most bytes of a block of input, and those that it can gather.
 abbrev pub mostBlock : ℕ
@@ -75,11 +72,11 @@ pub record Within (s : State) (line psl ltl out : List ℕ) : Type 0 where
   pub ltlRoom : length ltl ≡ 3 * ltlRules .most
   pub outRoom : length out ≡ 1200000
   pub filled : s .filled ≤ keptBytes
-  pub nodes : s .nodes ≤ pslRules .most
-  pub size : s .size ≤ ltlRules .most
+  pub pslNodes : s .«psl_nodes» ≤ pslRules .most
+  pub ltlNodes : s .«ltl_nodes» ≤ ltlRules .most
   pub numbered : 0 < s .number
   pub working : s .more ≡ true → s .failed ≡ false
-  pub stored : 1 < s .number → s .more ≡ true → (f : Formula) × TablesOf f (take (3 * s .nodes) psl) (take (3 * s .size) ltl)
+  pub stored : 1 < s .number → s .more ≡ true → (f : Formula) × TablesOf f (take (3 * s .«psl_nodes») psl) (take (3 * s .«ltl_nodes») ltl)
 
 -- At most `most` bytes are gathered, and none before line 1 is answered.
 pub record Gathered (most : ℕ) (s : State) : Type 0 where
@@ -94,8 +91,8 @@ firstText (First.Tables n s) ltl = tableText (take (3 * s) ltl)
 firstText (First.Refused x) ltl = refusedText 1 x
 
 abbrev pub Remembers : First → State → Type 0
-Remembers (First.Tables n s) r = (r .more ≡ true) × (r .nodes ≡ n) × (r .size ≡ s)
-Remembers (First.Refused x) r = (r .more ≡ false) × (r .nodes ≡ 0) × (r .size ≡ 0)
+Remembers (First.Tables n s) r = (r .more ≡ true) × (r .«psl_nodes» ≡ n) × (r .«ltl_nodes» ≡ s)
+Remembers (First.Refused x) r = (r .more ≡ false) × (r .«psl_nodes» ≡ 0) × (r .«ltl_nodes» ≡ 0)
 
 pub record FirstDone (line out : List ℕ) (r : State) (psl′ ltl′ out′ : List ℕ) : Type 0 where
   pub answer : First
@@ -154,11 +151,11 @@ pub record Advanced (block line psl ltl : List ℕ) (s r : State) (line′ psl�
 
 -- Before the first byte.
 abbrev pub start : State
-start = record { number = 1; filled = 0; nodes = 0; size = 0; gathered = 0; more = true; failed = false }
+start = record { number = 1; filled = 0; «psl_nodes» = 0; «ltl_nodes» = 0; gathered = 0; more = true; failed = false }
 
 -- Nothing is gathered.
 abbrev pub idle : State → State
-idle s = record { number = s .number; filled = s .filled; nodes = s .nodes; size = s .size; gathered = 0; more = s .more; failed = s .failed }
+idle s = record { number = s .number; filled = s .filled; «psl_nodes» = s .«psl_nodes»; «ltl_nodes» = s .«ltl_nodes»; gathered = 0; more = s .more; failed = s .failed }
 
 -- Turns from the start on: the blocks that were taken, one after another, and the bytes that each gathered.
 pub data Turns : List ℕ → List ℕ → State → List ℕ → List ℕ → List ℕ → Type 0 where

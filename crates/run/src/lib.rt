@@ -1,16 +1,23 @@
 // A run as a stream of bytes: lines are cut off, answered, and the answers gathered.
 use answers::First;
 use answers::Later;
-use answers::first_line;
-use answers::later_line;
+use answers::put_later;
+use formula_lines::FormulaLine;
+use logic::Letter;
 use printing::put_refused;
 use printing::put_table;
-use printing::put_trace;
+use trace::MOST_LETTERS;
+use trace_lines::TraceLine;
+use translate::Translation;
 ghost use mathlib.Core.Path.{_≡_};
 ghost use mathlib.Core.Bool.{true};
-ghost use Prim.Native.Nat.{_+_, _<_, _≤_};
+ghost use Prim.Native.Nat.{_+_, _*_, _<_, _≤_};
 ghost use lib.ListN.{length};
-ghost use Rattle.answers.specs.Inner.{Accepted};
+ghost use Rattle.logic.specs.Formula.{Formula};
+ghost use Rattle.psl.specs.Check.{pslRules};
+ghost use Rattle.ltl.specs.Check.{ltlRules};
+ghost use Rattle.answers.specs.Answer.{LaterAnswer};
+ghost use Rattle.answers.specs.Inner.{TablesOf, Accepted, FirstAnswer};
 ghost use Rattle.run.specs.Inner.{longest, mostBlock, mostGathered, mostLines, Within, Gathered, FirstDone, LaterDone, LineDone, Keeps, Fed, Finished, Advanced};
 
 // What a run is made of between two bytes.
@@ -19,8 +26,8 @@ pub struct State {
     pub number: u64,
     pub filled: usize,
     // The nodes of the PSL and of the LTL table.
-    pub nodes: usize,
-    pub size: usize,
+    pub psl_nodes: usize,
+    pub ltl_nodes: usize,
     // The bytes gathered for output.
     pub gathered: usize,
     // Whether the run goes on, and whether it stopped because reading or writing failed.
@@ -28,28 +35,61 @@ pub struct State {
     pub failed: bool,
 }
 
+// Line 1: its PSL table into the one list, the translation into the other. Each has room for the largest, so neither 23 nor 10 is due.
+fn first_line(line: &[u8], psl: &mut [u16], ltl: &mut [u16]) -> First
+    requires { ⌜ (length (now psl) ≡ 3 * pslRules .most) × (length (now ltl) ≡ 3 * ltlRules .most) ⌝ }
+    ensures { λ r. ⌜ FirstAnswer (now (line .entry)) r (now (psl .exit)) (now (ltl .exit)) ⌝ }
+{
+    match formula_lines::read_formula(line, psl) {
+        FormulaLine::Refused(x) => First::Refused(x),
+        FormulaLine::Nodes(p) => {
+            let end = 3 * p;
+            match translate::translate(&psl[..end], ltl) {
+                Translation::Refused(x) => First::Refused(x),
+                Translation::Nodes(q) => First::Tables { psl: p, ltl: q },
+            }
+        }
+    }
+}
+
+// A later line: both verdicts on its trace, by the tables of line 1, which were checked with it.
+fn later_line(line: &[u8], psl: &[u16], ltl: &[u16]) -> Later
+    requires { ⌜ Accepted (now psl) (now ltl) ⌝ }
+    ensures { λ r. ⌜ ((f : Formula) → TablesOf f (now (psl .entry)) (now (ltl .entry)) → LaterAnswer f (now (line .entry)) r) ⌝ }
+{
+    let mut lead: [Letter; MOST_LETTERS] = [0; MOST_LETTERS];
+    let mut cycle: [Letter; MOST_LETTERS] = [0; MOST_LETTERS];
+    match trace_lines::read_trace(line, &mut lead, &mut cycle) {
+        TraceLine::Refused(x) => Later::Refused(x),
+        TraceLine::Letters { lead: a, cycle: b } => Later::Verdicts(
+            verdict::judge_psl(psl, &lead[..a], &cycle[..b]),
+            verdict::judge_ltl(ltl, &lead[..a], &cycle[..b]),
+        ),
+    }
+}
+
 // Line 1: its answer's text is the first that is gathered.
 fn answer_first(line: &[u8], psl: &mut [u16], ltl: &mut [u16], out: &mut [u8]) -> State
-    requires { ⌜ (length (now psl) ≡ 3072) × (length (now ltl) ≡ 12288) × (longest < length (now out)) ⌝ }
+    requires { ⌜ (length (now psl) ≡ 3 * pslRules .most) × (length (now ltl) ≡ 3 * ltlRules .most) × (longest < length (now out)) ⌝ }
     ensures { λ r. ⌜ FirstDone (now (line .entry)) (now (out .entry)) r (now (psl .exit)) (now (ltl .exit)) (now (out .exit)) ⌝ }
 {
     match first_line(line, psl, ltl) {
         First::Refused(x) => State {
             number: 2,
             filled: 0,
-            nodes: 0,
-            size: 0,
+            psl_nodes: 0,
+            ltl_nodes: 0,
             gathered: put_refused(out, 0, 1, x),
             more: false,
             failed: false,
         },
-        First::Tables { nodes, size } => {
-            let end = 3 * size;
+        First::Tables { psl: p, ltl: q } => {
+            let end = 3 * q;
             State {
                 number: 2,
                 filled: 0,
-                nodes,
-                size,
+                psl_nodes: p,
+                ltl_nodes: q,
                 gathered: put_table(out, 0, &ltl[..end]),
                 more: true,
                 failed: false,
@@ -58,7 +98,7 @@ fn answer_first(line: &[u8], psl: &mut [u16], ltl: &mut [u16], out: &mut [u8]) -
     }
 }
 
-// Line `number`, above 1, is trace line `number - 1`.
+// Line `number`, above 1: its answer's text is the next that is gathered.
 fn answer_later(
     line: &[u8],
     psl: &[u16],
@@ -67,13 +107,11 @@ fn answer_later(
     number: u64,
     gathered: usize,
 ) -> usize
-    requires { ⌜ (0 < number) × (gathered + 60 < length (now out)) × Accepted (now psl) (now ltl) ⌝ }
+    requires { ⌜ Accepted (now psl) (now ltl) ⌝ }
     ensures { λ r. ⌜ LaterDone (now (line .entry)) (now (psl .entry)) (now (ltl .entry)) (now (out .entry)) number gathered (now (out .exit)) r ⌝ }
 {
-    match later_line(line, psl, ltl) {
-        Later::Refused(x) => put_refused(out, gathered, number, x),
-        Later::Verdicts(v, w) => put_trace(out, gathered, number - 1, v, w),
-    }
+    let answer = later_line(line, psl, ltl);
+    put_later(out, gathered, number, answer)
 }
 
 // The line that ends here is answered.
@@ -85,13 +123,13 @@ fn end_line(line: &[u8], psl: &mut [u16], ltl: &mut [u16], out: &mut [u8], s: St
     if s.number <= 1 {
         return answer_first(&line[..filled], psl, ltl, out);
     }
-    let p = 3 * s.nodes;
-    let q = 3 * s.size;
+    let p = 3 * s.psl_nodes;
+    let q = 3 * s.ltl_nodes;
     State {
         number: s.number + 1,
         filled: 0,
-        nodes: s.nodes,
-        size: s.size,
+        psl_nodes: s.psl_nodes,
+        ltl_nodes: s.ltl_nodes,
         gathered: answer_later(
             &line[..filled],
             &psl[..p],

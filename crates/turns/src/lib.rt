@@ -76,8 +76,8 @@ pub fn take_turns() {
     let mut s = State {
         number: 1,
         filled: 0,
-        nodes: 0,
-        size: 0,
+        psl_nodes: 0,
+        ltl_nodes: 0,
         gathered: 0,
         more: true,
         failed: false,

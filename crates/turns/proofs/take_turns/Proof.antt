@@ -25,8 +25,8 @@ loop-holds c = (
     ltlRoom = length-replicate {A = ℕ} 12288 0;
     outRoom = length-replicate {A = ℕ} 1200000 0;
     filled = omega arith;
-    nodes = omega arith;
-    size = omega arith;
+    pslNodes = omega arith;
+    ltlNodes = omega arith;
     numbered = omega arith;
     working = λ _. refl;
     stored = λ h. absurd (omega arith);
