@@ -1,6 +1,7 @@
 -- What each way out of the functions of the stream gives.
 use mathlib.Core.Path.{_≡_, refl, ap, sym, subst, _∙_}
 use mathlib.Core.Bool.{Bool, true, false}
+use mathlib.Core.Option.{Option, none}
 use mathlib.Core.List.{List, [], _∷_, _++_, append-assoc, append-nil}
 use Prim.Native.Nat.{ℕ, suc, _+_, _*_, _-_, _<_, _≤_}
 use native.Mathlib.Omega.{arith}
@@ -10,17 +11,24 @@ use lib.Dec.{ltb}
 use lib.ListN.{length, take, drop, getD, length-set, take-append-drop}
 use lib.Seq.{take-suc, take-all}
 use Rattle.trace.specs.declared.Refusal.{Refusal}
+use Rattle.table.specs.Answer.{checked}
 use Rattle.table.specs.Node.{_▸_}
+use Rattle.table.specs.declared.Checked.{Checked}
+use Rattle.table.specs.declared.Checked.the-variants as Checked
+use Rattle.table.proofs.CheckLaw.{some-none, was-refused}
 use Rattle.logic.specs.Formula.{Formula}
+use Rattle.psl.specs.Check.{pslRules}
+use Rattle.ltl.specs.Check.{ltlRules}
 use Rattle.text.specs.Inner.Writer.{Wrote}
 use Rattle.printing.specs.Printed.{refusedText, tableText}
 use Rattle.answers.specs.Answer.{shortest}
 use Rattle.run.specs.Whole.{Runs}
-use Rattle.answers.specs.Inner.{TablesOf, FirstAnswer}
-use Rattle.run.specs.Inner.{Going, At, longest, mostBlock, Within, Gathered, Remembers, FirstDone, LaterDone, LineDone, Keeps, Fed, Finished, Ends, Advanced, start, Turns, no-turn, one-turn, idle}
+use Rattle.answers.specs.Inner.{Accepted, FirstAnswer}
+use Rattle.run.specs.Inner.{Going, At, longest, mostBlock, mostGathered, Within, Ready, ListsFit, CountsFit, Tested, Gathered, Remembers, FirstDone, LaterDone, LineDone, Keeps, Fed, Finished, Ends, Advanced, stopped, Taken, start, Turns, no-turn, one-turn, idle}
 use Rattle.answers.specs.declared.First.{First}
 use Rattle.answers.specs.declared.First.the-variants as First
 use Rattle.run.specs.declared.State.{State}
+use Rattle.answers.proofs.AnswerLaw.{tables-accepted}
 use Rattle.run.proofs.ProgressLaw.{going-start, going-same, going-byte, at-first, going-later, end-empty, end-open}
 
 -- ── Bounds ──
@@ -77,24 +85,24 @@ module _ (line out out′ psl ltl : List ℕ) (a : First) (answers : FirstAnswer
         works = refl;
       }
 
-pub first-few : (line psl ltl : List ℕ) (a : First) (n z : ℕ) → FirstAnswer line a psl ltl → a ≡ First.Tables n z → (n ≤ 1024) × (z ≤ 4096)
+pub first-few : (line psl ltl : List ℕ) (a : First) (n z : ℕ) → FirstAnswer line a psl ltl → a ≡ First.Tables n z → (n ≤ pslRules .most) × (z ≤ ltlRules .most)
 first-few line psl ltl a n z h e = let (_, _, _, p, q) = subst (λ (y : First). FirstAnswer line y psl ltl) e h in (p, q)
 
 -- ── A line's end ──
 
 first-stored : (line psl ltl : List ℕ) (a : First) → FirstAnswer line a psl ltl → (r : State) → Remembers a r
-    → (r .«psl_nodes» ≤ 1024) × (r .«ltl_nodes» ≤ 4096) × (r .more ≡ true → (f : Formula) × TablesOf f (take (3 * r .«psl_nodes») psl) (take (3 * r .«ltl_nodes») ltl))
+    → (r .«psl_nodes» ≤ pslRules .most) × (r .«ltl_nodes» ≤ ltlRules .most) × (r .more ≡ true → Accepted (take (3 * r .«psl_nodes») psl) (take (3 * r .«ltl_nodes») ltl))
 first-stored line psl ltl (First.Refused x) a r (m, n, z) = (omega arith, omega arith, λ h. let z : _≡_ {A = ℕ} 0 1 = cc in absurd (omega arith))
-first-stored line psl ltl (First.Tables i j) (f, _, t, p, q) r (m, n, z) = (omega arith, omega arith, λ _. (f, rw (n, z) t))
+first-stored line psl ltl (First.Tables i j) (f, _, t, p, q) r (m, n, z) = (omega arith, omega arith, λ _. rw (n, z) (tables-accepted t))
 
 -- The state after a later line.
 abbrev pub onward : State → ℕ → State
 onward s g = record { number = s .number + 1; filled = 0; «psl_nodes» = s .«psl_nodes»; «ltl_nodes» = s .«ltl_nodes»; gathered = g; more = true; failed = false }
 
-module _ {line psl ltl out : List ℕ} (s : State) (w : Within s line psl ltl out) (few : s .gathered ≤ 1090040) where
+module _ {line psl ltl out : List ℕ} (s : State) (w : Within s line psl ltl out) (few : s .gathered ≤ mostGathered) where
   pub line-first : {psl′ ltl′ out′ : List ℕ} (r : State) → s .number ≤ 1 → s .gathered ≡ 0 → length psl′ ≡ length psl → length ltl′ ≡ length ltl → length out′ ≡ length out
       → FirstDone (take (s .filled) line) out r psl′ ltl′ out′ → LineDone line psl ltl out s r psl′ ltl′ out′
-  line-first {psl′} {ltl′} r h none p q o d =
+  line-first {psl′} {ltl′} r h empty p q o d =
       let (n, z, stored) = first-stored (take (s .filled) line) psl′ ltl′ (d .answer) (d .answers) r (d .remembers) in
       record {
         within = record {
@@ -111,7 +119,7 @@ module _ {line psl ltl out : List ℕ} (s : State) (w : Within s line psl ltl ou
         };
         number = omega (arith, d .number, w .numbered);
         short = λ k g. omega (arith, d .short);
-        tells = λ read done a. at-first read done line psl ltl out s r a h none d (omega (arith, d .short, w .outRoom));
+        tells = λ read done a. at-first read done line psl ltl out s r a h empty d (omega (arith, d .short, w .outRoom));
       }
 
   pub line-later : {out′ : List ℕ} (g : ℕ) → 1 < s .number → s .more ≡ true → length out′ ≡ length out
@@ -323,6 +331,72 @@ module _ {line psl ltl : List ℕ} (s : State) where
       go : (xs : List ℕ) → (length xs ≡ 0 → ⊥) → (read out : List ℕ) → ((rest : List ℕ) → Runs ((read ++ xs) ++ rest) out) → Ends read xs out
       go [] z read out f = absurd (z refl)
       go (x ∷ xs) z read out f = λ rest. subst (λ (y : List ℕ). Runs y out) (append-assoc read (x ∷ xs) rest) (f rest)
+
+-- ── The tests before a block ──
+
+module _ {A : Type 0} (b : Bool) (t : Tested A b) where
+  pub passed : b ≡ true → A
+  passed e = subst (Tested A) e t
+
+  pub failed : b ≡ false → A → ⊥
+  failed e = subst (Tested A) e t
+
+pub not-accepted : {o : Option Refusal} {c : Checked} {x : Refusal} → c ≡ checked o → c ≡ Checked.Refused x → o ≡ none → ⊥
+not-accepted {o} {c} {x} e r a = some-none (sym (was-refused o c x e r) ∙ a)
+
+module _ {block line psl ltl out : List ℕ} {s : State} where
+  pub ready : ListsFit (length block) (length line) (length psl) (length ltl) (length out) → CountsFit s
+      → (1 < s .number → Accepted (take (3 * s .«psl_nodes») psl) (take (3 * s .«ltl_nodes») ltl)) → Ready block s line psl ltl out
+  ready l k a =
+      record {
+        within = record {
+          lineRoom = l .lineRoom;
+          pslRoom = l .pslRoom;
+          ltlRoom = l .ltlRoom;
+          outRoom = l .outRoom;
+          filled = k .filled;
+          pslNodes = k .pslNodes;
+          ltlNodes = k .ltlNodes;
+          numbered = k .numbered;
+          working = λ _. k .works;
+          stored = λ h _. a h;
+        };
+        more = k .more;
+        short = l .short;
+        counted = k .counted;
+      }
+
+  pub ready-lists : Ready block s line psl ltl out → ListsFit (length block) (length line) (length psl) (length ltl) (length out)
+  ready-lists y =
+      let w = y .within in
+      record { short = y .short; lineRoom = w .lineRoom; pslRoom = w .pslRoom; ltlRoom = w .ltlRoom; outRoom = w .outRoom }
+
+  pub ready-counts : Ready block s line psl ltl out → CountsFit s
+  ready-counts y =
+      let w = y .within in
+      record {
+        filled = w .filled;
+        pslNodes = w .pslNodes;
+        ltlNodes = w .ltlNodes;
+        numbered = w .numbered;
+        counted = y .counted;
+        more = y .more;
+        works = w .working (y .more);
+      }
+
+  -- A block that can be taken was.
+  pub taken : {r : State} {line′ psl′ ltl′ out′ : List ℕ} → Ready block s line psl ltl out → Advanced block line psl ltl s r line′ psl′ ltl′ out′
+      → Taken block line psl ltl out s r line′ psl′ ltl′ out′
+  taken y a = record { takes = λ _. a; stops = λ not. absurd (not y); room = a .room }
+
+  -- One that cannot was not.
+  pub turned-away : {r : State} → (Ready block s line psl ltl out → ⊥) → r ≡ stopped s → Taken block line psl ltl out s r line psl ltl out
+  turned-away not e = record { takes = λ y. absurd (not y); stops = λ _. (e, refl, refl, refl, refl); room = omega (arith, ap (λ (q : State). q .gathered) e) }
+
+pub tested-ready : (block line psl ltl out : List ℕ) (s : State) (b : Bool) → ListsFit (length block) (length line) (length psl) (length ltl) (length out) → CountsFit s
+    → 1 < s .number → Tested (Accepted (take (3 * s .«psl_nodes») psl) (take (3 * s .«ltl_nodes») ltl)) b → Tested (Ready block s line psl ltl out) b
+tested-ready block line psl ltl out s true l k h t = ready l k (λ _. t)
+tested-ready block line psl ltl out s false l k h t = λ y. t (y .within .stored h (y .more))
 
 -- ── Turns ──
 

@@ -2,7 +2,6 @@
 use mathlib.Core.Path.{sym}
 use native.Mathlib.Omega.{arith}
 use lib.Seq.{length-take-le}
-use Rattle.answers.proofs.AnswerLaw.{tables-accepted}
 use Rattle.run.proofs.StreamLaw.{line-first, line-later}
 use borrow.Author.Needs.{needs}
 use Rattle.run.proofs.end_line.Statement.{statement}
@@ -61,8 +60,7 @@ slice-aggregate-answer-later-3 c = let at-pre = c .before .before .before .befor
 answer-later-requires : tie.Need-answer-later-requires
 answer-later-requires c κs = let at-pre = c .before .before .before .before .before .before .before .before .before .before .before .before .before .pre in
     let at-if1 = c .before .before .before .before .before .before .before .if1 in
-    let (_, tables) = at-pre .0 .stored (omega (arith, at-if1 .left)) (at-pre .2) in
-    tables-accepted tables
+    at-pre .0 .stored (omega (arith, at-if1 .left)) (at-pre .2)
 
 same-length-4 : tie.Need-same-length-4
 same-length-4 c = search needs
