@@ -3,10 +3,12 @@ use mathlib.Core.Path.{_≡_, refl, sym}
 use mathlib.Core.Bool.{true}
 use mathlib.Core.List.{[]}
 use native.Mathlib.Omega.{arith}
-use Prim.Native.Nat.{ℕ, _<_}
+use Prim.Native.Nat.{ℕ, _*_, _<_}
 use lib.ListN.{length-replicate}
 use borrow.Author.Needs.{needs}
-use Rattle.run.specs.Inner.{keptBytes, Within, no-turn}
+use Rattle.psl.specs.Check.{pslRules}
+use Rattle.ltl.specs.Check.{ltlRules}
+use Rattle.run.specs.Inner.{keptBytes, gatheringRoom, Within, no-turn}
 use Rattle.turns.proofs.TurnLaw.{Underway, underway-turn}
 use Rattle.turns.proofs.take_turns.Statement.{statement}
 use Rattle.turns.proofs.take_turns.Tie as tie
@@ -21,9 +23,9 @@ loop-holds : tie.Need-loop-holds Inv-loop μ-loop
 loop-holds c = (
   record {
     lineRoom = length-replicate {A = ℕ} keptBytes 0;
-    pslRoom = length-replicate {A = ℕ} 3072 0;
-    ltlRoom = length-replicate {A = ℕ} 12288 0;
-    outRoom = length-replicate {A = ℕ} 1200000 0;
+    pslRoom = length-replicate {A = ℕ} (3 * pslRules .most) 0;
+    ltlRoom = length-replicate {A = ℕ} (3 * ltlRules .most) 0;
+    outRoom = length-replicate {A = ℕ} gatheringRoom 0;
     filled = omega arith;
     pslNodes = omega arith;
     ltlNodes = omega arith;
