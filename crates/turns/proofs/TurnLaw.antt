@@ -6,7 +6,7 @@ use mathlib.Core.List.{List, [], _++_, append-nil}
 use Prim.Native.Nat.{ℕ, _+_, _≤_}
 use native.Mathlib.Omega.{arith}
 use lib.ListN.{length, take}
-use Rattle.run.specs.Inner.{Going, mostBlock, mostLines, Within, Advanced, stopped, Taken, Turns, one-turn, idle}
+use Rattle.run.specs.Inner.{Going, mostBlock, mostLines, Within, ListsFit, Advanced, stopped, Taken, start, Turns, one-turn, idle}
 use Rattle.run.specs.declared.State.{State}
 use Rattle.run.proofs.StreamLaw.{within-as, within-idle, never, anew}
 use Rattle.turns.specs.Turn.{Turned}
@@ -57,6 +57,21 @@ turn-idle {line} {psl} {ltl} {out} s r w m (inl e) =
     })
 
 -- ── Turns ──
+
+pub within-start : {line psl ltl out : List ℕ} → ListsFit 0 (length line) (length psl) (length ltl) (length out) → Within start line psl ltl out
+within-start l =
+    record {
+      lineRoom = l .lineRoom;
+      pslRoom = l .pslRoom;
+      ltlRoom = l .ltlRoom;
+      outRoom = l .outRoom;
+      filled = omega arith;
+      pslNodes = omega arith;
+      ltlNodes = omega arith;
+      numbered = omega arith;
+      working = λ _. refl;
+      stored = λ h. absurd (omega arith);
+    }
 
 -- Some turns have been made.
 abbrev pub Underway : State → List ℕ → List ℕ → List ℕ → Type 0

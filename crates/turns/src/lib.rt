@@ -14,7 +14,8 @@ use run::stop;
 ghost use mathlib.Core.Path.{_≡_};
 ghost use mathlib.Core.Logic.{_⊎_};
 ghost use mathlib.Core.Bool.{true};
-ghost use Rattle.run.specs.Inner.{Within, stopped, idle};
+ghost use lib.ListN.{length};
+ghost use Rattle.run.specs.Inner.{Within, ListsFit, stopped, idle};
 ghost use Rattle.turns.specs.Turn.{Turned};
 
 // A read failed. One that was interrupted is tried again; any other is told and stops the run, so that half a line is never taken for one.
@@ -54,12 +55,10 @@ fn take_turn(line: &mut [u8], psl: &mut [u16], ltl: &mut [u16], out: &mut [u8], 
     stop(r)
 }
 
-// Standard input to its end, or to a refused first line.
-pub fn take_turns() {
-    let mut line = [0u8; LINE_ROOM];
-    let mut psl = [0u16; PSL_ROOM];
-    let mut ltl = [0u16; LTL_ROOM];
-    let mut out = [0u8; OUT_ROOM];
+// Turns to the input's end, or to a refused first line.
+fn turn_by_turn(line: &mut [u8], psl: &mut [u16], ltl: &mut [u16], out: &mut [u8])
+    requires { ⌜ ListsFit 0 (length (now line)) (length (now psl)) (length (now ltl)) (length (now out)) ⌝ }
+{
     let mut s = State {
         number: 1,
         filled: 0,
@@ -71,7 +70,16 @@ pub fn take_turns() {
     };
     let mut turns = u64::MAX;
     while turns > 0 {
-        s = take_turn(&mut line, &mut psl, &mut ltl, &mut out, s);
+        s = take_turn(line, psl, ltl, out, s);
         turns = if s.more { turns - 1 } else { 0 };
     }
+}
+
+// A run on standard input.
+pub fn take_turns() {
+    let mut line = [0u8; LINE_ROOM];
+    let mut psl = [0u16; PSL_ROOM];
+    let mut ltl = [0u16; LTL_ROOM];
+    let mut out = [0u8; OUT_ROOM];
+    turn_by_turn(&mut line, &mut psl, &mut ltl, &mut out);
 }
