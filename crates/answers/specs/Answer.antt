@@ -19,16 +19,16 @@ use Rattle.answers.specs.declared.Later.{Later}
 use Rattle.answers.specs.declared.Later.the-variants as Later
 
 -- The verdict on a claim: yes where it is so, no where it is not.
-abbrev pub Tells : Type 0 → Verdict → Type 0
-Tells A Verdict.Yes = A
-Tells A Verdict.No = A → ⊥
-Tells A (Verdict.Refused x) = ⊥
+abbrev pub VerdictOn : Type 0 → Verdict → Type 0
+VerdictOn A Verdict.Yes = A
+VerdictOn A Verdict.No = A → ⊥
+VerdictOn A (Verdict.Refused x) = ⊥
 
 -- The verdicts v and w on a trace: v tells whether f holds by the PSL meaning, w whether its emitted table holds by the LTL meaning. On the empty
 -- trace, which has no LTL meaning, w is refused, and printed as `none`.
 pub record Judged (f : Formula) (t : Trace) (v w : Verdict) : Type 0 where
-  pub psl : Tells (HoldsOn f (t .lead) (t .loop)) v
-  pub ltl : 0 < size (t .lead) (t .loop) → Tells (LtlHoldsOn (treeOf (emitted f)) (t .lead) (t .loop)) w
+  pub psl : VerdictOn (HoldsOn f (t .lead) (t .loop)) v
+  pub ltl : 0 < size (t .lead) (t .loop) → VerdictOn (LtlHoldsOn (treeOf (emitted f)) (t .lead) (t .loop)) w
   pub empty : size (t .lead) (t .loop) ≡ 0 → w ≡ Verdict.Refused (refused 16)
 
 -- A trace line is answered by both verdicts on the trace that it spells, or by its refusal.

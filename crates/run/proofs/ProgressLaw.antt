@@ -13,6 +13,7 @@ use lib.Seq.{sets-eq, take-at, take-all, take-suc-set, take-append-le, length-ta
 use Rattle.table.specs.Node.{_▸_}
 use Rattle.logic.specs.Formula.{Formula}
 use Rattle.translate.specs.Emitted.{emitted}
+use Rattle.text.specs.Limits.{mostBytes}
 use Rattle.text.specs.Inner.Writer.{Wrote}
 use Rattle.text.proofs.ReadingLaw.{takes-cut, refuses-cut}
 use Rattle.text.proofs.WriterLaw.{wrote-room, wrote-fits}
@@ -204,7 +205,7 @@ module _ {read out line psl ltl : List ℕ} (s : State) (g : Going read out s li
         where
           nil : (o : List ℕ) → take keptBytes o ≡ [] → o ≡ []
           nil [] e = refl
-          nil (b ∷ o) e = let z : suc (length (take 16384 o)) ≡ 0 = ap length e in absurd (omega arith)
+          nil (b ∷ o) e = let z : suc (length (take mostBytes o)) ≡ 0 = ap length e in absurd (omega arith)
 
       go : (ls : List (List ℕ)) → endedLines read ≡ ls → Told ls out s psl ltl → Runs read out
       go [] e t = absurd (omega (arith, g .counted, ap length e))

@@ -24,7 +24,7 @@ use Rattle.printing.specs.Printed.{refusedText, tableText}
 use Rattle.answers.specs.Answer.{shortest}
 use Rattle.run.specs.Whole.{Runs}
 use Rattle.answers.specs.Inner.{Accepted, FirstAnswer}
-use Rattle.run.specs.Inner.{Going, At, longest, mostBlock, mostGathered, Within, Ready, ListsFit, CountsFit, Tested, Gathered, Remembers, FirstDone, LaterDone, LineDone, Keeps, Fed, Finished, Ends, Advanced, stopped, Taken, start, Turns, no-turn, one-turn, idle}
+use Rattle.run.specs.Inner.{Going, At, longest, mostBlock, mostGathered, Within, Ready, ListsFit, CountsFit, Tested, Gathered, Remembers, FirstDone, LaterDone, LineDone, Keeps, Fed, Finished, Ends, Advanced, stopped, AdvancesOrStops, start, Turns, no-turn, one-turn, idle}
 use Rattle.answers.specs.declared.First.{First}
 use Rattle.answers.specs.declared.First.the-variants as First
 use Rattle.run.specs.declared.State.{State}
@@ -59,7 +59,7 @@ abbrev pub begun : ℕ → ℕ → ℕ → Bool → State
 begun n z g m = record { number = 2; filled = 0; «psl_nodes» = n; «ltl_nodes» = z; gathered = g; more = m; failed = false }
 
 module _ (line out out′ psl ltl : List ℕ) (a : First) (answers : FirstAnswer line a psl ltl) (g : ℕ) where
-  pub first-refused : (x : Refusal) → a ≡ First.Refused x → Wrote (refusedText 1 x) out out′ 0 g → g ≤ 60 → FirstDone line out (begun 0 0 g false) psl ltl out′
+  pub first-refused : (x : Refusal) → a ≡ First.Refused x → Wrote (refusedText 1 x) out out′ 0 g → g ≤ shortest → FirstDone line out (begun 0 0 g false) psl ltl out′
   first-refused x e w h =
       record {
         answer = First.Refused x;
@@ -386,12 +386,12 @@ module _ {block line psl ltl out : List ℕ} {s : State} where
 
   -- A block that can be taken was.
   pub taken : {r : State} {line′ psl′ ltl′ out′ : List ℕ} → Ready block s line psl ltl out → Advanced block line psl ltl s r line′ psl′ ltl′ out′
-      → Taken block line psl ltl out s r line′ psl′ ltl′ out′
-  taken y a = record { takes = λ _. a; stops = λ not. absurd (not y); room = a .room }
+      → AdvancesOrStops block line psl ltl out s r line′ psl′ ltl′ out′
+  taken y a = record { advances = λ _. a; stops = λ not. absurd (not y); room = a .room }
 
   -- One that cannot was not.
-  pub turned-away : {r : State} → (Ready block s line psl ltl out → ⊥) → r ≡ stopped s → Taken block line psl ltl out s r line psl ltl out
-  turned-away not e = record { takes = λ y. absurd (not y); stops = λ _. (e, refl, refl, refl, refl); room = omega (arith, ap (λ (q : State). q .gathered) e) }
+  pub turned-away : {r : State} → (Ready block s line psl ltl out → ⊥) → r ≡ stopped s → AdvancesOrStops block line psl ltl out s r line psl ltl out
+  turned-away not e = record { advances = λ y. absurd (not y); stops = λ _. (e, refl, refl, refl, refl); room = omega (arith, ap (λ (q : State). q .gathered) e) }
 
 pub tested-ready : (block line psl ltl out : List ℕ) (s : State) (b : Bool) → ListsFit (length block) (length line) (length psl) (length ltl) (length out) → CountsFit s
     → 1 < s .number → Tested (Accepted (take (3 * s .«psl_nodes») psl) (take (3 * s .«ltl_nodes») ltl)) b → Tested (Ready block s line psl ltl out) b

@@ -186,8 +186,8 @@ abbrev pub stopped : State → State
 stopped s = record { number = s .number; filled = s .filled; «psl_nodes» = s .«psl_nodes»; «ltl_nodes» = s .«ltl_nodes»; gathered = 0; more = false; failed = true }
 
 -- A block is taken where it can be; else the run stops, and the lists are left as they were.
-pub record Taken (block line psl ltl out : List ℕ) (s r : State) (line′ psl′ ltl′ out′ : List ℕ) : Type 0 where
-  pub takes : Ready block s line psl ltl out → Advanced block line psl ltl s r line′ psl′ ltl′ out′
+pub record AdvancesOrStops (block line psl ltl out : List ℕ) (s r : State) (line′ psl′ ltl′ out′ : List ℕ) : Type 0 where
+  pub advances : Ready block s line psl ltl out → Advanced block line psl ltl s r line′ psl′ ltl′ out′
   pub stops : (Ready block s line psl ltl out → ⊥) → (r ≡ stopped s) × (line′ ≡ line) × (psl′ ≡ psl) × (ltl′ ≡ ltl) × (out′ ≡ out)
   pub room : r .gathered ≤ length out′
 

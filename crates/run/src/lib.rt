@@ -20,7 +20,7 @@ ghost use Rattle.psl.specs.Check.{pslRules};
 ghost use Rattle.ltl.specs.Check.{ltlRules};
 ghost use Rattle.answers.specs.Answer.{LaterAnswer};
 ghost use Rattle.answers.specs.Inner.{TablesOf, Accepted, FirstAnswer};
-ghost use Rattle.run.specs.Inner.{longest, mostBlock, mostGathered, mostLines, Within, Gathered, Ready, ListsFit, CountsFit, Tested, FirstDone, LaterDone, LineDone, Keeps, Fed, Finished, stopped, Taken};
+ghost use Rattle.run.specs.Inner.{longest, mostBlock, mostGathered, mostLines, Within, Gathered, Ready, ListsFit, CountsFit, Tested, FirstDone, LaterDone, LineDone, Keeps, Fed, Finished, stopped, AdvancesOrStops};
 
 // A line's bytes that are kept: one more than a line may have, so that a longer one is seen to be.
 pub const LINE_ROOM: usize = MOST_BYTES + 1;
@@ -316,7 +316,7 @@ pub fn advance(
     out: &mut [u8],
     s: State,
 ) -> State
-    ensures { λ r. ⌜ Taken (now (block .entry)) (now (line .entry)) (now (psl .entry)) (now (ltl .entry)) (now (out .entry)) s r (now (line .exit)) (now (psl .exit)) (now (ltl .exit)) (now (out .exit)) ⌝ }
+    ensures { λ r. ⌜ AdvancesOrStops (now (block .entry)) (now (line .entry)) (now (psl .entry)) (now (ltl .entry)) (now (out .entry)) s r (now (line .exit)) (now (psl .exit)) (now (ltl .exit)) (now (out .exit)) ⌝ }
 {
     if !sound(block, line, psl, ltl, out, s) {
         return stop(s);

@@ -6,7 +6,7 @@ use mathlib.Core.List.{List, [], _++_, append-nil}
 use Prim.Native.Nat.{ℕ, _+_, _≤_}
 use native.Mathlib.Omega.{arith}
 use lib.ListN.{length, take}
-use Rattle.run.specs.Inner.{Going, mostBlock, mostLines, Within, ListsFit, Advanced, stopped, Taken, start, Turns, one-turn, idle}
+use Rattle.run.specs.Inner.{Going, mostBlock, mostLines, Within, ListsFit, Advanced, stopped, AdvancesOrStops, start, Turns, one-turn, idle}
 use Rattle.run.specs.declared.State.{State}
 use Rattle.run.proofs.StreamLaw.{within-as, within-idle, never, anew}
 use Rattle.turns.specs.Turn.{Turned}
@@ -18,8 +18,8 @@ within-stopped s w = within-as s (stopped s) w refl refl refl refl (λ m. absurd
 
 -- A block that was read can be taken.
 pub block-taken : {block line psl ltl out line′ psl′ ltl′ out′ : List ℕ} {s r : State} → Within s line psl ltl out → s .more ≡ true → length block ≤ mostBlock
-    → s .number + mostBlock ≤ mostLines → Taken block line psl ltl out s r line′ psl′ ltl′ out′ → Advanced block line psl ltl s r line′ psl′ ltl′ out′
-block-taken w m short counted t = t .takes (record { within = w; more = m; short = short; counted = counted })
+    → s .number + mostBlock ≤ mostLines → AdvancesOrStops block line psl ltl out s r line′ psl′ ltl′ out′ → Advanced block line psl ltl s r line′ psl′ ltl′ out′
+block-taken w m short counted t = t .advances (record { within = w; more = m; short = short; counted = counted })
 
 -- It took the block.
 pub turn-taken : {line psl ltl line′ psl′ ltl′ out′ : List ℕ} (block : List ℕ) (s r : State) → Advanced block line psl ltl s r line′ psl′ ltl′ out′
