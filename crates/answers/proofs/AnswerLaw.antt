@@ -2,7 +2,7 @@
 use mathlib.Core.Path.{_≡_, refl, ap, sym, subst, _∙_}
 use mathlib.Core.Option.{Option, none, some}
 use mathlib.Core.List.{List}
-use Prim.Native.Nat.{ℕ, _*_, _≤_}
+use Prim.Native.Nat.{ℕ, suc, _+_, _*_, _-_, _≤_}
 use native.Mathlib.Omega.{arith}
 use borrow.Author.Tests.{le-leb}
 use lib.ListN.{length, take, replicate, length-replicate}
@@ -16,10 +16,10 @@ use Rattle.table.proofs.CheckLaw.{some-none}
 use Rattle.logic.specs.Formula.{Formula}
 use Rattle.logic.specs.Meaning.{HoldsOn}
 use Rattle.psl.specs.Table.{formulaOf}
-use Rattle.psl.specs.Check.{pslRefusal}
+use Rattle.psl.specs.Check.{pslRules, pslRefusal}
 use Rattle.logic.specs.LtlMeaning.{LtlHoldsOn}
 use Rattle.ltl.specs.Table.{treeOf}
-use Rattle.ltl.specs.Check.{ltlRefusal}
+use Rattle.ltl.specs.Check.{ltlRules, ltlRefusal}
 use Rattle.translate.specs.Emitted.{emitted, emittedSize}
 use Rattle.translate.specs.Answer.{translateRefusal, answer, Delivers}
 use Rattle.translate.specs.declared.Translation.{Translation}
@@ -42,9 +42,12 @@ use Rattle.text.proofs.ReadingLaw.{takes-by, refuses-by, front-take, front-leng
 use Rattle.formula_lines.proofs.LimitsLaw.{limits-few, limits-accepted, formula-room}
 use Rattle.trace_lines.proofs.LimitsLaw.{limits-short, trace-room}
 use Rattle.psl.proofs.ClosingLaw.{closing-formula}
-use Rattle.answers.specs.Answer.{Tells, LaterAnswer}
+use Rattle.text.specs.Inner.Writer.{Wrote}
+use Rattle.printing.specs.Printed.{refusedText, traceText}
+use Rattle.answers.specs.Answer.{VerdictOn, LaterAnswer, laterText}
 use Rattle.answers.specs.Inner.{TablesOf, Accepted, FirstAnswer}
 use Rattle.answers.specs.declared.First.the-variants as First
+use Rattle.answers.specs.declared.Later.{Later}
 use Rattle.answers.specs.declared.Later.the-variants as Later
 
 -- ── The tables of a formula within the limits ──
@@ -58,7 +61,7 @@ tables-accepted {f} {psl} {ltl} a =
 
 -- ── Line 1 ──
 
-module _ (line l m : List ℕ) (room : length l ≡ 3072) where
+module _ (line l m : List ℕ) (room : length l ≡ 3 * pslRules .most) where
   pub first-refused : {x : Refusal} → FormulaAnswer line l (FormulaLine.Refused x) m → Refuses formulaLine formulaLimits line x
   first-refused (a, _) = refuses-by (λ f. formula-room f (length l) (omega arith)) a
 
@@ -69,7 +72,7 @@ module _ (line l m : List ℕ) (room : length l ≡ 3072) where
     pub first-taken : Takes formulaLine formulaLimits line f
     first-taken = takes-by (λ g. formula-room g (length l) (omega arith)) (a .1)
 
-    pub first-few : (n ≤ 1024) × (3 * n ≤ length m)
+    pub first-few : (n ≤ pslRules .most) × (3 * n ≤ length m)
     first-few =
         let few = limits-few f (first-taken .within) in
         let counted = length-numbers (closingNodes f) in
@@ -85,13 +88,13 @@ module _ (line l m : List ℕ) (room : length l ≡ 3072) where
     accepted = ap pslRefusal first-table ∙ limits-accepted f (first-taken .within)
 
     -- There is room for every translation.
-    fits : (k : List ℕ) → length k ≡ 12288 → translateRefusal (take (3 * n) m) (length k) ≡ none
+    fits : (k : List ℕ) → length k ≡ 3 * ltlRules .most → translateRefusal (take (3 * n) m) (length k) ≡ none
     unfolding translateRefusal
     fits k h =
         let most = size-most (take (3 * n) m) accepted in
         rw (accepted, le-leb (3 * emittedSize (formulaOf (take (3 * n) m))) (length k) (omega arith))
 
-    pub first-translated : {k k′ : List ℕ} {x : Refusal} → length k ≡ 12288 → Delivers (take (3 * n) m) k (Translation.Refused x) k′ → ⊥
+    pub first-translated : {k k′ : List ℕ} {x : Refusal} → length k ≡ 3 * ltlRules .most → Delivers (take (3 * n) m) k (Translation.Refused x) k′ → ⊥
     first-translated {k} {x = x} h d =
         let e : Translation.Refused x ≡ Translation.Nodes (emittedSize (formulaOf (take (3 * n) m))) =
         d .answers ∙ ap (λ (o : Option Refusal). answer o (emittedSize (formulaOf (take (3 * n) m)))) (fits k h) in
@@ -110,7 +113,7 @@ module _ (line l m : List ℕ) (room : length l ≡ 3072) where
 -- ── Later lines ──
 
 -- A verdict that nothing refuses.
-tells : {o : Option Refusal} (A : Type 0) (v : Verdict) → o ≡ none → Judges o A v → Tells A v
+tells : {o : Option Refusal} (A : Type 0) (v : Verdict) → o ≡ none → Judges o A v → VerdictOn A v
 tells A Verdict.Yes e (_, h) = h
 tells A Verdict.No e (_, h) = h
 tells A (Verdict.Refused x) e h = absurd (some-none (sym h ∙ e))
@@ -125,7 +128,7 @@ abbrev pub room : List ℕ
 room = replicate mostLetters 0
 
 enough : mostLetters ≤ length room
-enough = omega (arith, length-replicate {A = ℕ} 64 0)
+enough = omega (arith, length-replicate {A = ℕ} mostLetters 0)
 
 module _ (line l m : List ℕ) where
   pub later-refused : {x : Refusal} → TraceAnswer line room room (TraceLine.Refused x) l m → Refuses lineOfTrace traceLimits line x
@@ -158,10 +161,21 @@ module _ (line l m : List ℕ) where
           t,
           taken,
           record {
-            psl = subst (λ (g : Formula). Tells (HoldsOn g (t .lead) (t .loop)) v) (ap formulaOf (s .read) ∙ closing-formula f)
+            psl = subst (λ (g : Formula). VerdictOn (HoldsOn g (t .lead) (t .loop)) v) (ap formulaOf (s .read) ∙ closing-formula f)
                 (tells (HoldsOn (formulaOf psl) (t .lead) (t .loop)) v (psl-fine psl (t .lead) (t .loop) ok short) p′);
-            ltl = λ h. subst (λ (x : List ℕ). Tells (LtlHoldsOn (treeOf x) (t .lead) (t .loop)) w) (s .translated)
+            ltl = λ h. subst (λ (x : List ℕ). VerdictOn (LtlHoldsOn (treeOf x) (t .lead) (t .loop)) w) (s .translated)
                 (tells (LtlHoldsOn (treeOf ltl) (t .lead) (t .loop)) w (ltl-fine ltl (t .lead) (t .loop) ok′ short h) q′);
             empty = λ h. refused-by (LtlHoldsOn (treeOf ltl) (t .lead) (t .loop)) w (refused 16) (ltl-empty ltl (t .lead) (t .loop) ok′ short (omega arith)) q′;
           },
         )
+
+-- The text put for either answer, of which k is the trace line's number.
+module _ {out out′ : List ℕ} {at next i k : ℕ} {a : Later} where
+  pub refused-written : {x : Refusal} → a ≡ Later.Refused x → k ≡ i → Wrote (refusedText (k + 1) x) out out′ at next → Wrote (laterText i a) out out′ at next
+  refused-written {x} e n w =
+      let line : k + 1 ≡ suc i = omega arith in
+      subst (λ (y : Later). Wrote (laterText i y) out out′ at next) (sym e) (subst (λ (j : ℕ). Wrote (refusedText j x) out out′ at next) line w)
+
+  pub judged-written : {v w : Verdict} → a ≡ Later.Verdicts v w → k ≡ i → Wrote (traceText k v w) out out′ at next → Wrote (laterText i a) out out′ at next
+  judged-written {v} {w} e n h =
+      subst (λ (y : Later). Wrote (laterText i y) out out′ at next) (sym e) (subst (λ (j : ℕ). Wrote (traceText j v w) out out′ at next) n h)

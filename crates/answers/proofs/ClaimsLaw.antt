@@ -15,14 +15,14 @@ use Rattle.trace_lines.specs.Spelling.{Trace, lineOfTrace}
 use Rattle.trace_lines.specs.TraceAnswer.{traceLimits}
 use Rattle.trace_lines.proofs.TraceLaw.{trace-alone}
 use Rattle.answers.specs.Claims.{Claims}
-use Rattle.answers.specs.Answer.{Tells, Judged, LaterAnswer}
+use Rattle.answers.specs.Answer.{VerdictOn, Judged, LaterAnswer}
 use Rattle.answers.specs.declared.Later.{Later}
 use Rattle.answers.specs.declared.Later.the-variants as Later
 
 -- ── Verdicts ──
 
 -- Verdicts on claims that hold together are equal.
-tells-both : {A B : Type 0} → (A ↔ B) → (v w : Verdict) → Tells A v → Tells B w → v ≡ w
+tells-both : {A B : Type 0} → (A ↔ B) → (v w : Verdict) → VerdictOn A v → VerdictOn B w → v ≡ w
 tells-both e Verdict.Yes Verdict.Yes a b = refl
 tells-both e Verdict.Yes Verdict.No a b = absurd (b (e .0 a))
 tells-both e Verdict.No Verdict.Yes a b = absurd (a (e .1 b))

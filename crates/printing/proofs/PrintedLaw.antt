@@ -18,7 +18,7 @@ use Rattle.text.proofs.NumberLaw.{digits-short}
 use Rattle.text.proofs.WriterLaw.{wrote-join, wrote-none}
 use Rattle.node_lines.proofs.WriterLaw.{line-length}
 use Rattle.printing.specs.Printed.{refusedText, verdictText, traceText, nodeLines, tableText}
-use Rattle.printing.specs.Limits.{longest, shortest, longestVerdict}
+use Rattle.printing.specs.Limits.{mostFirst, mostLater, longestVerdict}
 
 refused-bytes : (line : ℕ) (x : Refusal) → refusedText line x ≡ text "(refused " ++ (digits line ++ (text " " ++ (digits (x .0) ++ text ")\n")))
 unfolding refusedText
@@ -29,9 +29,9 @@ pub refused-wrote : {l₀ l₁ l₂ l₃ l₄ l₅ : List ℕ} {at a b c d e : �
 refused-wrote {l₀} {l₅ = l₅} {at = at} {e = e} line x p q r s t =
     subst (λ (w : List ℕ). Wrote w l₀ l₅ at e) (sym (refused-bytes line x)) (wrote-join p (wrote-join q (wrote-join r (wrote-join s t))))
 
-pub refused-short : (line : ℕ) (x : Refusal) → line < 18446744073709551616 → x .0 < 256 → length (refusedText line x) ≤ shortest
+pub refused-short : (line : ℕ) (x : Refusal) → line < 18446744073709551616 → x .0 < 256 → length (refusedText line x) ≤ mostLater
 refused-short line x h g =
-    subst (λ (w : List ℕ). length w ≤ shortest) (sym (refused-bytes line x))
+    subst (λ (w : List ℕ). length w ≤ mostLater) (sym (refused-bytes line x))
     (simp length-append (omega (arith, digits-short 19 line (omega arith), digits-short 2 (x .0) (omega arith))))
 
 pub verdict-short : (v : Verdict) → length (verdictText v) ≤ longestVerdict
@@ -52,9 +52,9 @@ trace-wrote {l₀} {l₇ = l₇} {at = at} {g = g} i v w p q r s t u z =
     subst (λ (y : List ℕ). Wrote y l₀ l₇ at g) (sym (trace-bytes i v w))
     (wrote-join p (wrote-join q (wrote-join r (wrote-join s (wrote-join t (wrote-join u z))))))
 
-pub trace-short : (i : ℕ) (v w : Verdict) → i < 18446744073709551616 → length (traceText i v w) ≤ shortest
+pub trace-short : (i : ℕ) (v w : Verdict) → i < 18446744073709551616 → length (traceText i v w) ≤ mostLater
 trace-short i v w h =
-    subst (λ (y : List ℕ). length y ≤ shortest) (sym (trace-bytes i v w))
+    subst (λ (y : List ℕ). length y ≤ mostLater) (sym (trace-bytes i v w))
     (simp length-append (omega (arith, digits-short 19 i (omega arith), verdict-short v, verdict-short w)))
 
 -- ── Tables ──
@@ -86,6 +86,6 @@ module _ (t : List ℕ) (small : (i : ℕ) → getD t i 0 < 65536) where
       let one = line-length k (kindAt t k) (leftAt t k) (rightAt t k) (omega arith) (small (3 * k + 1)) (small (3 * k + 2)) in
       omega (arith, length-append (nodeLines t k) (nodeLine k (nodeAt t k)), lines-short k (omega arith), one)
 
-  pub table-short : length t ≤ 3 * ltlRules .most → length (tableText t) ≤ longest
+  pub table-short : length t ≤ 3 * ltlRules .most → length (tableText t) ≤ mostFirst
   unfolding tableText
   table-short h = simp length-append (omega (arith, digits-short 3 (count t) (omega arith), lines-short (count t) (omega arith)))

@@ -9,11 +9,11 @@ ghost use lib.ListN.{length};
 ghost use Rattle.ltl.specs.Check.{ltlRules};
 ghost use Rattle.text.specs.Inner.Writer.{Wrote};
 ghost use Rattle.printing.specs.Printed.{refusedText, verdictText, traceText, tableText};
-ghost use Rattle.printing.specs.Limits.{longest, shortest, longestVerdict};
+ghost use Rattle.printing.specs.Limits.{mostFirst, mostLater, longestVerdict};
 
 // `(refused L R)`
 pub fn put_refused(out: &mut [u8], at: usize, line: u64, x: Refusal) -> usize
-    ensures { λ r. ⌜ Wrote (refusedText line x) (now (out .entry)) (now (out .exit)) at r × (r ≤ at + shortest) ⌝ }
+    ensures { λ r. ⌜ Wrote (refusedText line x) (now (out .entry)) (now (out .exit)) at r × (r ≤ at + mostLater) ⌝ }
 {
     let a = put_text(out, at, b"(refused ");
     let b = put_number(out, a, line);
@@ -34,7 +34,7 @@ fn put_verdict(out: &mut [u8], at: usize, v: Verdict) -> usize
 
 // `(trace I psl V ltl W)`
 pub fn put_trace(out: &mut [u8], at: usize, trace: u64, psl: Verdict, ltl: Verdict) -> usize
-    ensures { λ r. ⌜ Wrote (traceText trace psl ltl) (now (out .entry)) (now (out .exit)) at r × (r ≤ at + shortest) ⌝ }
+    ensures { λ r. ⌜ Wrote (traceText trace psl ltl) (now (out .entry)) (now (out .exit)) at r × (r ≤ at + mostLater) ⌝ }
 {
     let a = put_text(out, at, b"(trace ");
     let b = put_number(out, a, trace);
@@ -47,7 +47,7 @@ pub fn put_trace(out: &mut [u8], at: usize, trace: u64, psl: Verdict, ltl: Verdi
 
 // `(ltl S)` and the node lines of an LTL table, where it has no more nodes than a table may have.
 pub fn put_table(out: &mut [u8], at: usize, t: &[u16]) -> usize
-    ensures { λ r. ⌜ (length (now (t .entry)) ≤ 3 * ltlRules .most → Wrote (tableText (now (t .entry))) (now (out .entry)) (now (out .exit)) at r × (r ≤ at + longest)) ⌝ }
+    ensures { λ r. ⌜ (length (now (t .entry)) ≤ 3 * ltlRules .most → Wrote (tableText (now (t .entry))) (now (out .entry)) (now (out .exit)) at r × (r ≤ at + mostFirst)) ⌝ }
 {
     let nodes = t.len() / 3;
     let a = put_text(out, at, b"(ltl ");

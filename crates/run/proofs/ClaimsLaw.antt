@@ -22,11 +22,10 @@ use Rattle.formula_lines.proofs.FormulaLaw.{formula-injective}
 use Rattle.run.specs.Claims.{Claims}
 use Rattle.run.specs.Input.{inputLines}
 use Rattle.printing.specs.Printed.{refusedText, verdictText, tableText}
-use Rattle.answers.specs.Answer.{Tells, Judged}
+use Rattle.answers.specs.Answer.{VerdictOn, Judged, laterText}
 use Rattle.answers.proofs.ClaimsLaw.{later-alone}
-use Rattle.run.specs.Whole.{laterText, PrintsTraces, Prints}
+use Rattle.run.specs.Whole.{PrintsTraces, Prints}
 use Rattle.answers.specs.declared.Later.{Later}
-use Rattle.answers.specs.declared.Later.the-variants as Later
 use Rattle.run.proofs.StreamLaw.{turned}
 
 -- ── Verdicts ──
@@ -36,7 +35,7 @@ module _ (f : Formula) (t : Trace) where
   Ltl = LtlHoldsOn (treeOf (emitted f)) (t .lead) (t .loop)
 
   -- What is printed as none is refused.
-  decided : (A : Type 0) (v : Verdict) → Tells A v → verdictText v ≡ text "none" → ⊥
+  decided : (A : Type 0) (v : Verdict) → VerdictOn A v → verdictText v ≡ text "none" → ⊥
   unfolding verdictText
   decided A Verdict.Yes a e = let z : _≡_ {A = ℕ} 0 1 = cc in omega arith
   decided A Verdict.No a e = let z : _≡_ {A = ℕ} 0 1 = cc in omega arith

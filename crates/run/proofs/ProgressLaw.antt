@@ -13,13 +13,14 @@ use lib.Seq.{sets-eq, take-at, take-all, take-suc-set, take-append-le, length-ta
 use Rattle.table.specs.Node.{_▸_}
 use Rattle.logic.specs.Formula.{Formula}
 use Rattle.translate.specs.Emitted.{emitted}
+use Rattle.text.specs.Limits.{mostBytes}
 use Rattle.text.specs.Inner.Writer.{Wrote}
 use Rattle.text.proofs.ReadingLaw.{takes-cut, refuses-cut}
 use Rattle.text.proofs.WriterLaw.{wrote-room, wrote-fits}
 use Rattle.run.specs.Input.{endedAfter, openAfter, endedLines, openLine, inputLines}
 use Rattle.printing.specs.Printed.{tableText}
-use Rattle.answers.specs.Answer.{LaterAnswer}
-use Rattle.run.specs.Whole.{laterText, PrintsTraces, Prints, Runs}
+use Rattle.answers.specs.Answer.{LaterAnswer, laterText}
+use Rattle.run.specs.Whole.{PrintsTraces, Prints, Runs}
 use Rattle.answers.specs.Inner.{FirstAnswer}
 use Rattle.run.specs.Inner.{keptBytes, Told, Going, At, firstText, Remembers, FirstDone, LaterDone, Keeps}
 use Rattle.answers.specs.declared.First.{First}
@@ -50,12 +51,12 @@ going-start {line} s n f = record { counted = n; kept = ap (λ (k : ℕ). take k
 
 -- ── What the relation speaks of ──
 
-told-same : (ls : List (List ℕ)) (out psl ltl : List ℕ) (s r : State) → r .nodes ≡ s .nodes → r .size ≡ s .size → Told ls out s psl ltl → Told ls out r psl ltl
+told-same : (ls : List (List ℕ)) (out psl ltl : List ℕ) (s r : State) → r .«psl_nodes» ≡ s .«psl_nodes» → r .«ltl_nodes» ≡ s .«ltl_nodes» → Told ls out s psl ltl → Told ls out r psl ltl
 told-same [] out psl ltl s r n z t = t
 told-same (l ∷ ls) out psl ltl s r n z (f, rest, a, b, c, d) = (f, rest, a, rw (n, z) b, c, d)
 
-module _ {read out line psl ltl : List ℕ} (s r : State) (g : Going read out s line psl ltl) (num : r .number ≡ s .number) (nodes : r .nodes ≡ s .nodes)
-    (size : r .size ≡ s .size) where
+module _ {read out line psl ltl : List ℕ} (s r : State) (g : Going read out s line psl ltl) (num : r .number ≡ s .number) (nodes : r .«psl_nodes» ≡ s .«psl_nodes»)
+    (size : r .«ltl_nodes» ≡ s .«ltl_nodes») where
   pub going-same : r .filled ≡ s .filled → Going read out r line psl ltl
   going-same filled =
       record {
@@ -149,8 +150,8 @@ module _ (read done line psl ltl out : List ℕ) (s r : State) (g : Going read (
   -- ── A later line ends ──
 
   pub going-later : {out′ : List ℕ} → 1 < s .number
-      → LaterDone (take (s .filled) line) (take (3 * s .nodes) psl) (take (3 * s .size) ltl) out (s .number) (s .gathered) out′ (r .gathered)
-      → r .gathered < length out → r .number ≡ s .number + 1 → r .filled ≡ 0 → r .nodes ≡ s .nodes → r .size ≡ s .size
+      → LaterDone (take (s .filled) line) (take (3 * s .«psl_nodes») psl) (take (3 * s .«ltl_nodes») ltl) out (s .number) (s .gathered) out′ (r .gathered)
+      → r .gathered < length out → r .number ≡ s .number + 1 → r .filled ≡ 0 → r .«psl_nodes» ≡ s .«psl_nodes» → r .«ltl_nodes» ≡ s .«ltl_nodes»
       → Going (read ▸ 10) (done ++ take (r .gathered) out′) r line psl ltl
   going-later {out′} h d fits num filled n z =
       let ended = ended-end read [] in
@@ -204,7 +205,7 @@ module _ {read out line psl ltl : List ℕ} (s : State) (g : Going read out s li
         where
           nil : (o : List ℕ) → take keptBytes o ≡ [] → o ≡ []
           nil [] e = refl
-          nil (b ∷ o) e = let z : suc (length (take 16384 o)) ≡ 0 = ap length e in absurd (omega arith)
+          nil (b ∷ o) e = let z : suc (length (take mostBytes o)) ≡ 0 = ap length e in absurd (omega arith)
 
       go : (ls : List (List ℕ)) → endedLines read ≡ ls → Told ls out s psl ltl → Runs read out
       go [] e t = absurd (omega (arith, g .counted, ap length e))

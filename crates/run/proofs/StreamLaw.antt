@@ -1,8 +1,9 @@
 -- What each way out of the functions of the stream gives.
 use mathlib.Core.Path.{_≡_, refl, ap, sym, subst, _∙_}
 use mathlib.Core.Bool.{Bool, true, false}
+use mathlib.Core.Option.{Option, none}
 use mathlib.Core.List.{List, [], _∷_, _++_, append-assoc, append-nil}
-use Prim.Native.Nat.{ℕ, suc, _+_, _*_, _-_, _<_, _≤_}
+use Prim.Native.Nat.{ℕ, _+_, _*_, _-_, _<_, _≤_}
 use native.Mathlib.Omega.{arith}
 use native.Mathlib.Numerals.{add-one}
 use borrow.Author.Tests.{ltb-true, ltb-false}
@@ -10,28 +11,30 @@ use lib.Dec.{ltb}
 use lib.ListN.{length, take, drop, getD, length-set, take-append-drop}
 use lib.Seq.{take-suc, take-all}
 use Rattle.trace.specs.declared.Refusal.{Refusal}
+use Rattle.table.specs.Answer.{checked}
 use Rattle.table.specs.Node.{_▸_}
-use Rattle.logic.specs.Formula.{Formula}
-use Rattle.verdict.specs.declared.Verdict.{Verdict}
+use Rattle.table.specs.declared.Checked.{Checked}
+use Rattle.table.specs.declared.Checked.the-variants as Checked
+use Rattle.table.proofs.CheckLaw.{some-none, was-refused}
+use Rattle.psl.specs.Check.{pslRules}
+use Rattle.ltl.specs.Check.{ltlRules}
 use Rattle.text.specs.Inner.Writer.{Wrote}
-use Rattle.printing.specs.Printed.{refusedText, traceText, tableText}
-use Rattle.printing.specs.Limits.{longest, shortest}
-use Rattle.answers.specs.Answer.{LaterAnswer}
+use Rattle.printing.specs.Printed.{refusedText, tableText}
+use Rattle.printing.specs.Limits.{mostLater, mostFirst}
 use Rattle.run.specs.Whole.{Runs}
-use Rattle.answers.specs.Inner.{TablesOf, FirstAnswer}
-use Rattle.run.specs.Inner.{Going, At, mostBlock, mostGathered, Within, Gathered, Remembers, FirstDone, LaterDone, LineDone, Keeps, Fed, Finished, Ends, Advanced, start, Turns, no-turn, one-turn, idle}
+use Rattle.answers.specs.Inner.{Accepted, FirstAnswer}
+use Rattle.run.specs.Inner.{Going, At, mostBlock, mostGathered, Within, Ready, ListsFit, CountsFit, Tested, Gathered, Remembers, FirstDone, LaterDone, LineDone, Keeps, Fed, Finished, Ends, Advanced, stopped, AdvancesOrStops, start, Turns, no-turn, one-turn, idle}
 use Rattle.answers.specs.declared.First.{First}
 use Rattle.answers.specs.declared.First.the-variants as First
-use Rattle.answers.specs.declared.Later.{Later}
-use Rattle.answers.specs.declared.Later.the-variants as Later
 use Rattle.run.specs.declared.State.{State}
+use Rattle.answers.proofs.AnswerLaw.{tables-accepted}
 use Rattle.run.proofs.ProgressLaw.{going-start, going-same, going-byte, at-first, going-later, end-empty, end-open}
 
 -- ── Bounds ──
 
 -- The same state, with other bytes gathered.
-pub within-as : {line psl ltl out : List ℕ} (s r : State) → Within s line psl ltl out → r .number ≡ s .number → r .filled ≡ s .filled → r .nodes ≡ s .nodes
-    → r .size ≡ s .size → (r .more ≡ true → (s .more ≡ true) × (r .failed ≡ false)) → Within r line psl ltl out
+pub within-as : {line psl ltl out : List ℕ} (s r : State) → Within s line psl ltl out → r .number ≡ s .number → r .filled ≡ s .filled → r .«psl_nodes» ≡ s .«psl_nodes»
+    → r .«ltl_nodes» ≡ s .«ltl_nodes» → (r .more ≡ true → (s .more ≡ true) × (r .failed ≡ false)) → Within r line psl ltl out
 within-as s r w number filled nodes size more =
     record {
       lineRoom = w .lineRoom;
@@ -39,8 +42,8 @@ within-as s r w number filled nodes size more =
       ltlRoom = w .ltlRoom;
       outRoom = w .outRoom;
       filled = omega (arith, w .filled);
-      nodes = omega (arith, w .nodes);
-      size = omega (arith, w .size);
+      pslNodes = omega (arith, w .pslNodes);
+      ltlNodes = omega (arith, w .ltlNodes);
       numbered = omega (arith, w .numbered);
       working = λ m. more m .1;
       stored = λ h m. rw (nodes, size) (w .stored (omega (arith, number)) (more m .0));
@@ -52,10 +55,10 @@ within-idle s w = within-as s (idle s) w refl refl refl refl (λ m. (m, w .worki
 -- ── Answers ──
 
 abbrev pub begun : ℕ → ℕ → ℕ → Bool → State
-begun n z g m = record { number = 2; filled = 0; nodes = n; size = z; gathered = g; more = m; failed = false }
+begun n z g m = record { number = 2; filled = 0; «psl_nodes» = n; «ltl_nodes» = z; gathered = g; more = m; failed = false }
 
 module _ (line out out′ psl ltl : List ℕ) (a : First) (answers : FirstAnswer line a psl ltl) (g : ℕ) where
-  pub first-refused : (x : Refusal) → a ≡ First.Refused x → Wrote (refusedText 1 x) out out′ 0 g → g ≤ shortest → FirstDone line out (begun 0 0 g false) psl ltl out′
+  pub first-refused : (x : Refusal) → a ≡ First.Refused x → Wrote (refusedText 1 x) out out′ 0 g → g ≤ mostLater → FirstDone line out (begun 0 0 g false) psl ltl out′
   first-refused x e w h =
       record {
         answer = First.Refused x;
@@ -68,7 +71,7 @@ module _ (line out out′ psl ltl : List ℕ) (a : First) (answers : FirstAnswer
         works = refl;
       }
 
-  pub first-tables : (n z : ℕ) → a ≡ First.Tables n z → Wrote (tableText (take (3 * z) ltl)) out out′ 0 g → g ≤ longest → FirstDone line out (begun n z g true) psl ltl out′
+  pub first-tables : (n z : ℕ) → a ≡ First.Tables n z → Wrote (tableText (take (3 * z) ltl)) out out′ 0 g → g ≤ mostFirst → FirstDone line out (begun n z g true) psl ltl out′
   first-tables n z e w h =
       record {
         answer = First.Tables n z;
@@ -81,38 +84,24 @@ module _ (line out out′ psl ltl : List ℕ) (a : First) (answers : FirstAnswer
         works = refl;
       }
 
-pub first-few : (line psl ltl : List ℕ) (a : First) (n z : ℕ) → FirstAnswer line a psl ltl → a ≡ First.Tables n z → (n ≤ 1024) × (z ≤ 4096)
+pub first-few : (line psl ltl : List ℕ) (a : First) (n z : ℕ) → FirstAnswer line a psl ltl → a ≡ First.Tables n z → (n ≤ pslRules .most) × (z ≤ ltlRules .most)
 first-few line psl ltl a n z h e = let (_, _, _, p, q) = subst (λ (y : First). FirstAnswer line y psl ltl) e h in (p, q)
-
-module _ {line psl ltl out out′ : List ℕ} (a : Later) (answers : (f : Formula) → TablesOf f psl ltl → LaterAnswer f line a) (number at next : ℕ) (h : next ≤ at + shortest) where
-  pub later-refused : (x : Refusal) → 0 < number → a ≡ Later.Refused x → Wrote (refusedText number x) out out′ at next → LaterDone line psl ltl out number at out′ next
-  later-refused x pos e w =
-      let same : number ≡ suc (number - 1) = omega arith in
-      record {
-        answer = Later.Refused x;
-        answers = λ f t. subst (LaterAnswer f line) e (answers f t);
-        writes = subst (λ (k : ℕ). Wrote (refusedText k x) out out′ at next) same w;
-        short = h;
-      }
-
-  pub later-judged : (v w : Verdict) → a ≡ Later.Verdicts v w → Wrote (traceText (number - 1) v w) out out′ at next → LaterDone line psl ltl out number at out′ next
-  later-judged v w e t = record { answer = Later.Verdicts v w; answers = λ f t. subst (LaterAnswer f line) e (answers f t); writes = t; short = h }
 
 -- ── A line's end ──
 
 first-stored : (line psl ltl : List ℕ) (a : First) → FirstAnswer line a psl ltl → (r : State) → Remembers a r
-    → (r .nodes ≤ 1024) × (r .size ≤ 4096) × (r .more ≡ true → (f : Formula) × TablesOf f (take (3 * r .nodes) psl) (take (3 * r .size) ltl))
+    → (r .«psl_nodes» ≤ pslRules .most) × (r .«ltl_nodes» ≤ ltlRules .most) × (r .more ≡ true → Accepted (take (3 * r .«psl_nodes») psl) (take (3 * r .«ltl_nodes») ltl))
 first-stored line psl ltl (First.Refused x) a r (m, n, z) = (omega arith, omega arith, λ h. let z : _≡_ {A = ℕ} 0 1 = cc in absurd (omega arith))
-first-stored line psl ltl (First.Tables i j) (f, _, t, p, q) r (m, n, z) = (omega arith, omega arith, λ _. (f, rw (n, z) t))
+first-stored line psl ltl (First.Tables i j) (f, _, t, p, q) r (m, n, z) = (omega arith, omega arith, λ _. rw (n, z) (tables-accepted t))
 
 -- The state after a later line.
 abbrev pub onward : State → ℕ → State
-onward s g = record { number = s .number + 1; filled = 0; nodes = s .nodes; size = s .size; gathered = g; more = true; failed = false }
+onward s g = record { number = s .number + 1; filled = 0; «psl_nodes» = s .«psl_nodes»; «ltl_nodes» = s .«ltl_nodes»; gathered = g; more = true; failed = false }
 
 module _ {line psl ltl out : List ℕ} (s : State) (w : Within s line psl ltl out) (few : s .gathered ≤ mostGathered) where
   pub line-first : {psl′ ltl′ out′ : List ℕ} (r : State) → s .number ≤ 1 → s .gathered ≡ 0 → length psl′ ≡ length psl → length ltl′ ≡ length ltl → length out′ ≡ length out
       → FirstDone (take (s .filled) line) out r psl′ ltl′ out′ → LineDone line psl ltl out s r psl′ ltl′ out′
-  line-first {psl′} {ltl′} r h none p q o d =
+  line-first {psl′} {ltl′} r h empty p q o d =
       let (n, z, stored) = first-stored (take (s .filled) line) psl′ ltl′ (d .answer) (d .answers) r (d .remembers) in
       record {
         within = record {
@@ -121,19 +110,19 @@ module _ {line psl ltl out : List ℕ} (s : State) (w : Within s line psl ltl ou
           ltlRoom = q ∙ w .ltlRoom;
           outRoom = o ∙ w .outRoom;
           filled = omega (arith, d .filled);
-          nodes = n;
-          size = z;
+          pslNodes = n;
+          ltlNodes = z;
           numbered = omega (arith, d .number);
           working = λ _. d .works;
           stored = λ _. stored;
         };
         number = omega (arith, d .number, w .numbered);
         short = λ k g. omega (arith, d .short);
-        tells = λ read done a. at-first read done line psl ltl out s r a h none d (omega (arith, d .short, w .outRoom));
+        tells = λ read done a. at-first read done line psl ltl out s r a h empty d (omega (arith, d .short, w .outRoom));
       }
 
   pub line-later : {out′ : List ℕ} (g : ℕ) → 1 < s .number → s .more ≡ true → length out′ ≡ length out
-      → LaterDone (take (s .filled) line) (take (3 * s .nodes) psl) (take (3 * s .size) ltl) out (s .number) (s .gathered) out′ g
+      → LaterDone (take (s .filled) line) (take (3 * s .«psl_nodes») psl) (take (3 * s .«ltl_nodes») ltl) out (s .number) (s .gathered) out′ g
       → LineDone line psl ltl out s (onward s g) psl ltl out′
   line-later g h m o d =
       record {
@@ -143,8 +132,8 @@ module _ {line psl ltl out : List ℕ} (s : State) (w : Within s line psl ltl ou
           ltlRoom = w .ltlRoom;
           outRoom = o ∙ w .outRoom;
           filled = omega arith;
-          nodes = w .nodes;
-          size = w .size;
+          pslNodes = w .pslNodes;
+          ltlNodes = w .ltlNodes;
           numbered = omega arith;
           working = λ _. refl;
           stored = λ _ _. w .stored h m;
@@ -161,14 +150,14 @@ module _ {line psl ltl out : List ℕ} (s : State) (w : Within s line psl ltl ou
 
 -- The state with another count of kept bytes.
 abbrev pub keeping : State → ℕ → State
-keeping s k = record { number = s .number; filled = k; nodes = s .nodes; size = s .size; gathered = s .gathered; more = s .more; failed = s .failed }
+keeping s k = record { number = s .number; filled = k; «psl_nodes» = s .«psl_nodes»; «ltl_nodes» = s .«ltl_nodes»; gathered = s .gathered; more = s .more; failed = s .failed }
 
 -- The state r after the first i bytes of a block, from s on.
 pub record Feeding (block line₀ psl₀ ltl₀ : List ℕ) (s : State) (line psl ltl out : List ℕ) (r : State) (i : ℕ) : Type 0 where
   pub within : Within r line psl ltl out
   pub more : r .more ≡ true
   pub upto : i ≤ length block
-  pub gathered : Gathered (longest + shortest * i) r
+  pub gathered : Gathered (mostFirst + mostLater * i) r
   pub number : r .number ≤ s .number + i
   pub tells : (read done : List ℕ) → Going read done s line₀ psl₀ ltl₀ → Going (read ++ take i block) (done ++ take (r .gathered) out) r line psl ltl
 
@@ -213,8 +202,8 @@ module _ {block line₀ psl₀ ltl₀ line psl ltl out : List ℕ} {s : State} (
           ltlRoom = w .ltlRoom;
           outRoom = w .outRoom;
           filled = omega (arith, q, w .lineRoom);
-          nodes = w .nodes;
-          size = w .size;
+          pslNodes = w .pslNodes;
+          ltlNodes = w .ltlNodes;
           numbered = w .numbered;
           working = w .working;
           stored = w .stored;
@@ -234,8 +223,8 @@ module _ {block line₀ psl₀ ltl₀ line psl ltl out : List ℕ} {s : State} (
         subst (λ (x : List ℕ). At x (done ++ take (r′ .gathered) out′) r′ line psl′ ltl′) (one-more read block i 10 h (sym ten ∙ e))
         (d .tells (read ++ take i block) done (f .tells read done a))
 
-    short : r′ .gathered ≤ longest + shortest * (i + 1)
-    short = omega (arith, d .short (shortest * i) (f .gathered))
+    short : r′ .gathered ≤ mostFirst + mostLater * (i + 1)
+    short = omega (arith, d .short (mostLater * i) (f .gathered))
 
     pub feeding-line : r′ .more ≡ true → Feeding block line₀ psl₀ ltl₀ s line psl′ ltl′ out′ r′ (i + 1)
     feeding-line m =
@@ -304,7 +293,7 @@ module _ {line psl ltl out : List ℕ} (s : State) (w : Within s line psl ltl ou
 
 -- The state at the input's end.
 abbrev pub ended : State → State
-ended s = record { number = s .number; filled = s .filled; nodes = s .nodes; size = s .size; gathered = s .gathered; more = false; failed = s .failed }
+ended s = record { number = s .number; filled = s .filled; «psl_nodes» = s .«psl_nodes»; «ltl_nodes» = s .«ltl_nodes»; gathered = s .gathered; more = false; failed = s .failed }
 
 pub never : {b : Bool} → b ≡ true → b ≡ false → ⊥
 never {b} p q = let z : _≡_ {A = ℕ} 0 1 = cc in omega arith
@@ -341,6 +330,72 @@ module _ {line psl ltl : List ℕ} (s : State) where
       go : (xs : List ℕ) → (length xs ≡ 0 → ⊥) → (read out : List ℕ) → ((rest : List ℕ) → Runs ((read ++ xs) ++ rest) out) → Ends read xs out
       go [] z read out f = absurd (z refl)
       go (x ∷ xs) z read out f = λ rest. subst (λ (y : List ℕ). Runs y out) (append-assoc read (x ∷ xs) rest) (f rest)
+
+-- ── The tests before a block ──
+
+module _ {A : Type 0} (b : Bool) (t : Tested A b) where
+  pub passed : b ≡ true → A
+  passed e = subst (Tested A) e t
+
+  pub failed : b ≡ false → A → ⊥
+  failed e = subst (Tested A) e t
+
+pub not-accepted : {o : Option Refusal} {c : Checked} {x : Refusal} → c ≡ checked o → c ≡ Checked.Refused x → o ≡ none → ⊥
+not-accepted {o} {c} {x} e r a = some-none (sym (was-refused o c x e r) ∙ a)
+
+module _ {block line psl ltl out : List ℕ} {s : State} where
+  pub ready : ListsFit (length block) (length line) (length psl) (length ltl) (length out) → CountsFit s
+      → (1 < s .number → Accepted (take (3 * s .«psl_nodes») psl) (take (3 * s .«ltl_nodes») ltl)) → Ready block s line psl ltl out
+  ready l k a =
+      record {
+        within = record {
+          lineRoom = l .lineRoom;
+          pslRoom = l .pslRoom;
+          ltlRoom = l .ltlRoom;
+          outRoom = l .outRoom;
+          filled = k .filled;
+          pslNodes = k .pslNodes;
+          ltlNodes = k .ltlNodes;
+          numbered = k .numbered;
+          working = λ _. k .works;
+          stored = λ h _. a h;
+        };
+        more = k .more;
+        short = l .short;
+        counted = k .counted;
+      }
+
+  pub ready-lists : Ready block s line psl ltl out → ListsFit (length block) (length line) (length psl) (length ltl) (length out)
+  ready-lists y =
+      let w = y .within in
+      record { short = y .short; lineRoom = w .lineRoom; pslRoom = w .pslRoom; ltlRoom = w .ltlRoom; outRoom = w .outRoom }
+
+  pub ready-counts : Ready block s line psl ltl out → CountsFit s
+  ready-counts y =
+      let w = y .within in
+      record {
+        filled = w .filled;
+        pslNodes = w .pslNodes;
+        ltlNodes = w .ltlNodes;
+        numbered = w .numbered;
+        counted = y .counted;
+        more = y .more;
+        works = w .working (y .more);
+      }
+
+  -- A block that can be taken was.
+  pub taken : {r : State} {line′ psl′ ltl′ out′ : List ℕ} → Ready block s line psl ltl out → Advanced block line psl ltl s r line′ psl′ ltl′ out′
+      → AdvancesOrStops block line psl ltl out s r line′ psl′ ltl′ out′
+  taken y a = record { advances = λ _. a; stops = λ not. absurd (not y); room = a .room }
+
+  -- One that cannot was not.
+  pub turned-away : {r : State} → (Ready block s line psl ltl out → ⊥) → r ≡ stopped s → AdvancesOrStops block line psl ltl out s r line psl ltl out
+  turned-away not e = record { advances = λ y. absurd (not y); stops = λ _. (e, refl, refl, refl, refl); room = omega (arith, ap (λ (q : State). q .gathered) e) }
+
+pub tested-ready : (block line psl ltl out : List ℕ) (s : State) (b : Bool) → ListsFit (length block) (length line) (length psl) (length ltl) (length out) → CountsFit s
+    → 1 < s .number → Tested (Accepted (take (3 * s .«psl_nodes») psl) (take (3 * s .«ltl_nodes») ltl)) b → Tested (Ready block s line psl ltl out) b
+tested-ready block line psl ltl out s true l k h t = ready l k (λ _. t)
+tested-ready block line psl ltl out s false l k h t = λ y. t (y .within .stored h (y .more))
 
 -- ── Turns ──
 

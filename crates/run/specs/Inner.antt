@@ -1,6 +1,6 @@
 -- What the inner functions of a run promise: read this after `Whole`.
 use mathlib.Core.Path.{_≡_}
-use mathlib.Core.Bool.{true, false}
+use mathlib.Core.Bool.{Bool, true, false}
 use mathlib.Core.List.{List, [], _∷_, _++_}
 use Prim.Native.Nat.{ℕ, _+_, _*_, _-_, _≤_, _<_}
 use lib.ListN.{length, take, set}
@@ -16,10 +16,10 @@ use Rattle.formula_lines.specs.FormulaAnswer.{formulaLimits}
 use Rattle.text.specs.Inner.Writer.{Wrote}
 use Rattle.run.specs.Input.{endedLines, openLine}
 use Rattle.printing.specs.Printed.{refusedText, tableText}
-use Rattle.printing.specs.Limits.{longest, shortest}
-use Rattle.answers.specs.Answer.{LaterAnswer}
-use Rattle.answers.specs.Inner.{TablesOf, FirstAnswer}
-use Rattle.run.specs.Whole.{laterText, PrintsTraces, Runs}
+use Rattle.answers.specs.Answer.{LaterAnswer, laterText}
+use Rattle.printing.specs.Limits.{mostLater}
+use Rattle.answers.specs.Inner.{TablesOf, Accepted, FirstAnswer}
+use Rattle.run.specs.Whole.{PrintsTraces, Runs}
 use Rattle.answers.specs.declared.First.{First}
 use Rattle.answers.specs.declared.First.the-variants as First
 use Rattle.answers.specs.declared.Later.{Later}
@@ -35,7 +35,7 @@ keptBytes = mostBytes + 1
 abbrev pub Told : List (List ℕ) → List ℕ → State → List ℕ → List ℕ → Type 0
 Told [] out s psl ltl = out ≡ []
 Told (line ∷ ls) out s psl ltl =
-    (f : Formula) × (rest : List ℕ) × Takes formulaLine formulaLimits line f × TablesOf f (take (3 * s .nodes) psl) (take (3 * s .size) ltl)
+    (f : Formula) × (rest : List ℕ) × Takes formulaLine formulaLimits line f × TablesOf f (take (3 * s .«psl_nodes») psl) (take (3 * s .«ltl_nodes») ltl)
     × (out ≡ tableText (emitted f) ++ rest) × PrintsTraces f 1 ls rest
 
 -- The run goes on: the bytes `read` have been taken, and the lines that ended in them printed `out`.
@@ -51,34 +51,66 @@ pub record At (read out : List ℕ) (s : State) (line psl ltl : List ℕ) : Type
 
 -- ── Bounds ──
 
--- The most bytes of a block of input, and those that it can gather.
+-- The most bytes of a block of input, those that it can gather, and the room for these: it is never filled up.
 abbrev pub mostBlock : ℕ
-mostBlock = 16384
+mostBlock = 4096
 
 abbrev pub mostGathered : ℕ
-mostGathered = longest + shortest * mostBlock
+mostGathered = mostFirst + mostLater * mostBlock
+
+abbrev pub gatheringRoom : ℕ
+gatheringRoom = mostGathered + (mostLater + 1)
 
 -- The largest number of a line.
 abbrev pub mostLines : ℕ
 mostLines = 18446744073709551615
 
--- The lent lists have their room, and the state's counts are within it. In a run that goes on after line 1 the lists hold a formula's tables.
+-- The lent lists have their room, and the state's counts are within it. In a run that goes on after line 1 the lists hold accepted tables.
 pub record Within (s : State) (line psl ltl out : List ℕ) : Type 0 where
   pub lineRoom : length line ≡ keptBytes
   pub pslRoom : length psl ≡ 3 * pslRules .most
   pub ltlRoom : length ltl ≡ 3 * ltlRules .most
-  pub outRoom : length out ≡ 1200000
+  pub outRoom : length out ≡ gatheringRoom
   pub filled : s .filled ≤ keptBytes
-  pub nodes : s .nodes ≤ pslRules .most
-  pub size : s .size ≤ ltlRules .most
+  pub pslNodes : s .«psl_nodes» ≤ pslRules .most
+  pub ltlNodes : s .«ltl_nodes» ≤ ltlRules .most
   pub numbered : 0 < s .number
   pub working : s .more ≡ true → s .failed ≡ false
-  pub stored : 1 < s .number → s .more ≡ true → (f : Formula) × TablesOf f (take (3 * s .nodes) psl) (take (3 * s .size) ltl)
+  pub stored : 1 < s .number → s .more ≡ true → Accepted (take (3 * s .«psl_nodes») psl) (take (3 * s .«ltl_nodes») ltl)
 
 -- At most `most` bytes are gathered, and none before line 1 is answered.
 pub record Gathered (most : ℕ) (s : State) : Type 0 where
   pub few : s .gathered ≤ most
   pub first : s .number ≤ 1 → s .gathered ≡ 0
+
+-- A block can be taken: it is not too long, the run goes on, and the lines are counted to the block's end.
+pub record Ready (block : List ℕ) (s : State) (line psl ltl out : List ℕ) : Type 0 where
+  pub within : Within s line psl ltl out
+  pub more : s .more ≡ true
+  pub short : length block ≤ mostBlock
+  pub counted : s .number + mostBlock ≤ mostLines
+
+-- The parts of this that are tested one by one: the lists' lengths, and the state's counts.
+pub record ListsFit (block line psl ltl out : ℕ) : Type 0 where
+  pub short : block ≤ mostBlock
+  pub lineRoom : line ≡ keptBytes
+  pub pslRoom : psl ≡ 3 * pslRules .most
+  pub ltlRoom : ltl ≡ 3 * ltlRules .most
+  pub outRoom : out ≡ gatheringRoom
+
+pub record CountsFit (s : State) : Type 0 where
+  pub filled : s .filled ≤ keptBytes
+  pub pslNodes : s .«psl_nodes» ≤ pslRules .most
+  pub ltlNodes : s .«ltl_nodes» ≤ ltlRules .most
+  pub numbered : 0 < s .number
+  pub counted : s .number + mostBlock ≤ mostLines
+  pub more : s .more ≡ true
+  pub works : s .failed ≡ false
+
+-- What a test of a claim answers.
+abbrev pub Tested : Type 0 → Bool → Type 0
+Tested A true = A
+Tested A false = A → ⊥
 
 -- ── What the functions of the stream do ──
 
@@ -88,14 +120,14 @@ firstText (First.Tables n s) ltl = tableText (take (3 * s) ltl)
 firstText (First.Refused x) ltl = refusedText 1 x
 
 abbrev pub Remembers : First → State → Type 0
-Remembers (First.Tables n s) r = (r .more ≡ true) × (r .nodes ≡ n) × (r .size ≡ s)
-Remembers (First.Refused x) r = (r .more ≡ false) × (r .nodes ≡ 0) × (r .size ≡ 0)
+Remembers (First.Tables n s) r = (r .more ≡ true) × (r .«psl_nodes» ≡ n) × (r .«ltl_nodes» ≡ s)
+Remembers (First.Refused x) r = (r .more ≡ false) × (r .«psl_nodes» ≡ 0) × (r .«ltl_nodes» ≡ 0)
 
 pub record FirstDone (line out : List ℕ) (r : State) (psl′ ltl′ out′ : List ℕ) : Type 0 where
   pub answer : First
   pub answers : FirstAnswer line answer psl′ ltl′
   pub writes : Wrote (firstText answer ltl′) out out′ 0 (r .gathered)
-  pub short : r .gathered ≤ longest
+  pub short : r .gathered ≤ mostFirst
   pub remembers : Remembers answer r
   pub number : r .number ≡ 2
   pub filled : r .filled ≡ 0
@@ -106,13 +138,13 @@ pub record LaterDone (line psl ltl out : List ℕ) (number at : ℕ) (out′ : L
   pub answer : Later
   pub answers : (f : Formula) → TablesOf f psl ltl → LaterAnswer f line answer
   pub writes : Wrote (laterText (number - 1) answer) out out′ at next
-  pub short : next ≤ at + shortest
+  pub short : next ≤ at + mostLater
 
 -- The open line ends: byte 10 is taken, and the answer's text is gathered.
 pub record LineDone (line psl ltl out : List ℕ) (s r : State) (psl′ ltl′ out′ : List ℕ) : Type 0 where
   pub within : Within r line psl′ ltl′ out′
   pub number : r .number ≡ s .number + 1
-  pub short : (k : ℕ) → Gathered (longest + k) s → r .gathered ≤ longest + (k + shortest)
+  pub short : (k : ℕ) → Gathered (mostFirst + k) s → r .gathered ≤ mostFirst + (k + mostLater)
   pub tells : (read done : List ℕ) → Going read (done ++ take (s .gathered) out) s line psl ltl
       → At (read ▸ 10) (done ++ take (r .gathered) out′) r line psl′ ltl′
 
@@ -146,13 +178,23 @@ pub record Advanced (block line psl ltl : List ℕ) (s r : State) (line′ psl�
       → Going (read ++ block) (done ++ take (r .gathered) out′) r line′ psl′ ltl′
   pub ends : r .more ≡ false → (read done : List ℕ) → Going read done s line psl ltl → Ends read block (done ++ take (r .gathered) out′)
 
+-- The run stops before its input ends, and nothing is gathered.
+abbrev pub stopped : State → State
+stopped s = record { number = s .number; filled = s .filled; «psl_nodes» = s .«psl_nodes»; «ltl_nodes» = s .«ltl_nodes»; gathered = 0; more = false; failed = true }
+
+-- A block is taken where it can be; else the run stops, and the lists are left as they were.
+pub record AdvancesOrStops (block line psl ltl out : List ℕ) (s r : State) (line′ psl′ ltl′ out′ : List ℕ) : Type 0 where
+  pub advances : Ready block s line psl ltl out → Advanced block line psl ltl s r line′ psl′ ltl′ out′
+  pub stops : (Ready block s line psl ltl out → ⊥) → (r ≡ stopped s) × (line′ ≡ line) × (psl′ ≡ psl) × (ltl′ ≡ ltl) × (out′ ≡ out)
+  pub room : r .gathered ≤ length out′
+
 -- Before the first byte.
 abbrev pub start : State
-start = record { number = 1; filled = 0; nodes = 0; size = 0; gathered = 0; more = true; failed = false }
+start = record { number = 1; filled = 0; «psl_nodes» = 0; «ltl_nodes» = 0; gathered = 0; more = true; failed = false }
 
 -- Nothing is gathered.
 abbrev pub idle : State → State
-idle s = record { number = s .number; filled = s .filled; nodes = s .nodes; size = s .size; gathered = 0; more = s .more; failed = s .failed }
+idle s = record { number = s .number; filled = s .filled; «psl_nodes» = s .«psl_nodes»; «ltl_nodes» = s .«ltl_nodes»; gathered = 0; more = s .more; failed = s .failed }
 
 -- Turns from the start on: the blocks that were taken, one after another, and the bytes that each gathered.
 pub data Turns : List ℕ → List ℕ → State → List ℕ → List ℕ → List ℕ → Type 0 where

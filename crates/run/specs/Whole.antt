@@ -10,17 +10,11 @@ use Rattle.formula_lines.specs.Spelling.{formulaLine}
 use Rattle.text.specs.Reading.{Takes, Refuses}
 use Rattle.formula_lines.specs.FormulaAnswer.{formulaLimits}
 use Rattle.run.specs.Input.{inputLines}
-use Rattle.printing.specs.Printed.{refusedText, traceText, tableText}
-use Rattle.answers.specs.Answer.{LaterAnswer}
+use Rattle.printing.specs.Printed.{refusedText, tableText}
+use Rattle.answers.specs.Answer.{LaterAnswer, laterText}
 use Rattle.answers.specs.declared.Later.{Later}
-use Rattle.answers.specs.declared.Later.the-variants as Later
 
 -- ── Trace lines ──
-
--- What the answer to trace line i prints; it is line i + 1 of the input.
-abbrev pub laterText : ℕ → Later → List ℕ
-laterText i (Later.Verdicts v w) = traceText i v w
-laterText i (Later.Refused x) = refusedText (suc i) x
 
 -- Trace lines, of which the first has number i, print `out`.
 abbrev pub PrintsTraces : Formula → ℕ → List (List ℕ) → List ℕ → Type 0

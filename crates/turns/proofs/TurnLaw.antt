@@ -3,18 +3,23 @@ use mathlib.Core.Path.{_≡_, refl, sym, subst}
 use mathlib.Core.Logic.{_⊎_, inl, inr}
 use mathlib.Core.Bool.{Bool, true, false}
 use mathlib.Core.List.{List, [], _++_, append-nil}
-use Prim.Native.Nat.{ℕ}
+use Prim.Native.Nat.{ℕ, _+_, _≤_}
 use native.Mathlib.Omega.{arith}
-use lib.ListN.{take}
-use Rattle.run.specs.Inner.{Going, Within, Advanced, Turns, one-turn, idle}
+use lib.ListN.{length, take}
+use Rattle.run.specs.Inner.{Going, mostBlock, mostLines, Within, ListsFit, Advanced, stopped, AdvancesOrStops, start, Turns, one-turn, idle}
 use Rattle.run.specs.declared.State.{State}
 use Rattle.run.proofs.StreamLaw.{within-as, within-idle, never, anew}
-use Rattle.turns.specs.Turn.{stopped, Turned}
+use Rattle.turns.specs.Turn.{Turned}
 
 -- ── A turn ──
 
 within-stopped : {line psl ltl out : List ℕ} (s : State) → Within s line psl ltl out → Within (stopped s) line psl ltl out
 within-stopped s w = within-as s (stopped s) w refl refl refl refl (λ m. absurd (never m refl))
+
+-- A block that was read can be taken.
+pub block-taken : {block line psl ltl out line′ psl′ ltl′ out′ : List ℕ} {s r : State} → Within s line psl ltl out → s .more ≡ true → length block ≤ mostBlock
+    → s .number + mostBlock ≤ mostLines → AdvancesOrStops block line psl ltl out s r line′ psl′ ltl′ out′ → Advanced block line psl ltl s r line′ psl′ ltl′ out′
+block-taken w m short counted t = t .advances (record { within = w; more = m; short = short; counted = counted })
 
 -- It took the block.
 pub turn-taken : {line psl ltl line′ psl′ ltl′ out′ : List ℕ} (block : List ℕ) (s r : State) → Advanced block line psl ltl s r line′ psl′ ltl′ out′
@@ -52,6 +57,21 @@ turn-idle {line} {psl} {ltl} {out} s r w m (inl e) =
     })
 
 -- ── Turns ──
+
+pub within-start : {line psl ltl out : List ℕ} → ListsFit 0 (length line) (length psl) (length ltl) (length out) → Within start line psl ltl out
+within-start l =
+    record {
+      lineRoom = l .lineRoom;
+      pslRoom = l .pslRoom;
+      ltlRoom = l .ltlRoom;
+      outRoom = l .outRoom;
+      filled = omega arith;
+      pslNodes = omega arith;
+      ltlNodes = omega arith;
+      numbered = omega arith;
+      working = λ _. refl;
+      stored = λ h. absurd (omega arith);
+    }
 
 -- Some turns have been made.
 abbrev pub Underway : State → List ℕ → List ℕ → List ℕ → Type 0

@@ -6,10 +6,6 @@ use Prim.Native.Nat.{ℕ}
 use Rattle.run.specs.Inner.{Within, Advanced}
 use Rattle.run.specs.declared.State.{State}
 
--- The run stops, and nothing is gathered.
-abbrev pub stopped : State → State
-stopped s = record { number = s .number; filled = s .filled; nodes = s .nodes; size = s .size; gathered = 0; more = false; failed = true }
-
 -- A turn took the block that was read, and handed its output over to be written; or reading or writing failed, and the run stops.
 pub record Turned (line psl ltl : List ℕ) (s r : State) (line′ psl′ ltl′ out′ : List ℕ) : Type 0 where
   pub within : Within r line′ psl′ ltl′ out′

@@ -2,33 +2,21 @@
 use libc::STDERR_FILENO;
 use libc::STDIN_FILENO;
 use libc::STDOUT_FILENO;
+use run::BLOCK;
+use run::LAST_LINE;
+use run::LINE_ROOM;
+use run::LTL_ROOM;
+use run::OUT_ROOM;
+use run::PSL_ROOM;
 use run::State;
 use run::advance;
+use run::stop;
 ghost use mathlib.Core.Path.{_≡_};
 ghost use mathlib.Core.Logic.{_⊎_};
 ghost use mathlib.Core.Bool.{true};
-ghost use Rattle.run.specs.Inner.{Within, idle};
-ghost use Rattle.turns.specs.Turn.{stopped, Turned};
-
-// A line's bytes that are kept: one more than a line may have, so that a longer one is seen to be.
-const LINE_ROOM: usize = 16385;
-// The most bytes of a block of input.
-const BLOCK: usize = 16384;
-// Room for what a block prints, at most 107,000 bytes for line 1 and 60 for each byte, and for one more answer to line 1.
-const OUT_ROOM: usize = 1200000;
-// Line numbers above this could overflow within a block of input.
-const LAST_LINE: u64 = u64::MAX - 16384;
-
-// The run stops before its input ends.
-fn stop(s: State) -> State
-    ensures { λ r. ⌜ r ≡ stopped s ⌝ }
-{
-    let mut r = s;
-    r.gathered = 0;
-    r.more = false;
-    r.failed = true;
-    r
-}
+ghost use lib.ListN.{length};
+ghost use Rattle.run.specs.Inner.{Within, ListsFit, stopped, idle};
+ghost use Rattle.turns.specs.Turn.{Turned};
 
 // A read failed. One that was interrupted is tried again; any other is told and stops the run, so that half a line is never taken for one.
 fn stop_unless_interrupted(s: State) -> State
@@ -67,24 +55,31 @@ fn take_turn(line: &mut [u8], psl: &mut [u16], ltl: &mut [u16], out: &mut [u8], 
     stop(r)
 }
 
-// Standard input to its end, or to a refused first line.
-pub fn take_turns() {
-    let mut line = [0u8; LINE_ROOM];
-    let mut psl = [0u16; 3072];
-    let mut ltl = [0u16; 12288];
-    let mut out = [0u8; OUT_ROOM];
+// Turns to the input's end, or to a refused first line.
+fn turn_by_turn(line: &mut [u8], psl: &mut [u16], ltl: &mut [u16], out: &mut [u8])
+    requires { ⌜ ListsFit 0 (length (now line)) (length (now psl)) (length (now ltl)) (length (now out)) ⌝ }
+{
     let mut s = State {
         number: 1,
         filled: 0,
-        nodes: 0,
-        size: 0,
+        psl_nodes: 0,
+        ltl_nodes: 0,
         gathered: 0,
         more: true,
         failed: false,
     };
     let mut turns = u64::MAX;
     while turns > 0 {
-        s = take_turn(&mut line, &mut psl, &mut ltl, &mut out, s);
+        s = take_turn(line, psl, ltl, out, s);
         turns = if s.more { turns - 1 } else { 0 };
     }
+}
+
+// A run on standard input.
+pub fn take_turns() {
+    let mut line = [0u8; LINE_ROOM];
+    let mut psl = [0u16; PSL_ROOM];
+    let mut ltl = [0u16; LTL_ROOM];
+    let mut out = [0u8; OUT_ROOM];
+    turn_by_turn(&mut line, &mut psl, &mut ltl, &mut out);
 }

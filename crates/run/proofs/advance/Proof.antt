@@ -1,15 +1,25 @@
--- The input's end, or the bytes of a block.
+-- The tests, then the input's end or the bytes of a block.
 use mathlib.Core.Path.{refl}
 use native.Mathlib.Omega.{arith}
-use Rattle.run.proofs.StreamLaw.{within-idle, advance-end, advance-on}
+use borrow.Author.Tests.{not-true, not-false}
+use Rattle.run.specs.Inner.{Ready}
+use Rattle.run.proofs.StreamLaw.{within-idle, passed, failed, taken, turned-away, advance-end, advance-on}
 use borrow.Author.Needs.{needs}
 use Rattle.run.proofs.advance.Statement.{statement}
 use Rattle.run.proofs.advance.Tie as tie
 
-finish-requires : tie.Need-finish-requires
-finish-requires c κs = let x = c .before .before .before .before .before .before .before .before .before .before .args in
-    let pre = c .before .before .before .before .before .before .before .before .before .before .pre in
-    (within-idle (x .s) (pre .0), record { few = omega arith; first = λ _. refl }, pre .1, omega (arith, pre .3))
+-- Where the tests have passed, the block can be taken.
+abbrev start : tie.Else1 → tie.Start
+start e = e .before .before .before .before .before .before .before .before .before .before .before
+
+can : (e : tie.Else1) → let x = start e .args in Ready (x .block .now) (x .s) (x .line .now) (x .psl .now) (x .ltl .now) (x .out .now)
+can e = passed (e .before .sound .result) (e .before .sound .ensures) (not-false _ (e .if1 .left))
+
+sound-requires : tie.Need-sound-requires
+sound-requires c κs = search needs
+
+stop-requires : tie.Need-stop-requires
+stop-requires c κs = search needs
 
 same-length : tie.Need-same-length
 same-length c = search needs
@@ -24,15 +34,12 @@ same-length-4 : tie.Need-same-length-4
 same-length-4 c = search needs
 
 returns : tie.Need-returns
-returns c = let x = c .before .before .before .before .before .before .before .before .before .before .before .before .before .before .before .before .before .args in
-    let pre = c .before .before .before .before .before .before .before .before .before .before .before .before .before .before .before .before .before .pre in
-    let done = c .before .before .before .before .before .before .finish in
-    advance-end (x .s) (done .result) (c .before .before .before .before .before .before .before .before .before .before .before .if1 .taken) (done .ensures)
+returns c = turned-away (failed (c .before .before .sound .result) (c .before .before .sound .ensures) (not-true _ (c .before .if1 .taken))) (c .stop .ensures)
 
-feed-requires : tie.Need-feed-requires
-feed-requires c κs = let x = c .before .before .before .before .before .before .before .before .before .before .args in
-    let pre = c .before .before .before .before .before .before .before .before .before .before .pre in
-    (within-idle (x .s) (pre .0), record { few = omega arith; first = λ _. refl }, pre .1, pre .2, omega (arith, pre .2, pre .3))
+finish-requires : tie.Need-finish-requires
+finish-requires c κs = let E = c .before .before .before .before .before in
+    let y = can E in
+    (within-idle (start E .args .s) (y .within), record { few = omega arith; first = λ _. refl }, y .more, omega (arith, y .counted))
 
 same-length-5 : tie.Need-same-length-5
 same-length-5 c = search needs
@@ -47,24 +54,54 @@ same-length-8 : tie.Need-same-length-8
 same-length-8 c = search needs
 
 returns-2 : tie.Need-returns-2
-returns-2 c = let x = c .before .before .before .before .before .before .before .before .before .before .before .before .before .before .before .before .before .before .before .args in
-    let pre = c .before .before .before .before .before .before .before .before .before .before .before .before .before .before .before .before .before .before .before .pre in
-    let done = c .before .before .before .before .before .before .before .before .feed in
-    advance-on (x .s) (done .result) (c .before .before .before .before .before .before .before .before .before .before .before .before .before .if1 .left) (done .ensures)
+returns-2 c = let F = c .before .before .before .before .before .before in
+    let T = F .before .before .before .before .before in
+    let E = T .before in
+    taken (can E) (advance-end (start E .args .s) (F .finish .result) (T .if2 .taken) (F .finish .ensures))
+
+feed-requires : tie.Need-feed-requires
+feed-requires c κs = let E = c .before .before .before .before .before in
+    let y = can E in
+    (within-idle (start E .args .s) (y .within), record { few = omega arith; first = λ _. refl }, y .more, y .short, omega (arith, y .short, y .counted))
+
+same-length-9 : tie.Need-same-length-9
+same-length-9 c = search needs
+
+same-length-10 : tie.Need-same-length-10
+same-length-10 c = search needs
+
+same-length-11 : tie.Need-same-length-11
+same-length-11 c = search needs
+
+same-length-12 : tie.Need-same-length-12
+same-length-12 c = search needs
+
+returns-3 : tie.Need-returns-3
+returns-3 c = let F = c .before .before .before .before .before .before .before .before in
+    let T = F .before .before .before .before .before in
+    let E = T .before in
+    taken (can E) (advance-on (start E .args .s) (F .feed .result) (T .if2 .left) (F .feed .ensures))
 
 pub advance-spec : {M : Type 1} → statement M
 advance-spec =
     tie.close
     (tie.spec
-    finish-requires
+    sound-requires
+    stop-requires
     same-length
     same-length-2
     same-length-3
     same-length-4
     returns
-    feed-requires
+    finish-requires
     same-length-5
     same-length-6
     same-length-7
     same-length-8
-    returns-2)
+    returns-2
+    feed-requires
+    same-length-9
+    same-length-10
+    same-length-11
+    same-length-12
+    returns-3)

@@ -18,34 +18,34 @@ enum-known-x c = search needs
 put-refused-requires : tie.Need-put-refused-requires
 put-refused-requires c κs = search needs
 
-enum-known-nodes : tie.Need-enum-known-nodes
-enum-known-nodes c = search needs
+enum-known-p : tie.Need-enum-known-p
+enum-known-p c = search needs
 
 mul-end : tie.Need-mul-end
 mul-end c = let x = c .before .before .before .before .before .before .before .before .before .before .before .before .before .before .args in
     let at-first-line = c .before .before .before .before .before .before .before .first-line in
-    let at-nodes = c .before .nodes in
+    let at-tables = c .before .p in
     let at-pre = c .before .before .before .before .before .before .before .before .before .before .before .before .before .before .pre in
     let kept : length (at-first-line .last .1 .1 .0) ≡ length (x .ltl .now) = search needs in
-    let few = first-few (x .line .now) (at-first-line .last .1 .0) (at-first-line .last .1 .1 .0) (at-first-line .result) (at-nodes .given .0 .0) (at-nodes .given .0 .1 .0) (at-first-line .ensures) (at-nodes .given .1) in
+    let few = first-few (x .line .now) (at-first-line .last .1 .0) (at-first-line .last .1 .1 .0) (at-first-line .result) (at-tables .given .0 .0) (at-tables .given .0 .1 .0) (at-first-line .ensures) (at-tables .given .1) in
     omega (arith, few .1)
 
 slice-reshare-prefix-put-table : tie.Need-slice-reshare-prefix-put-table
 slice-reshare-prefix-put-table c = let x = c .before .before .before .before .before .before .before .before .before .before .before .before .before .before .before .args in
     let at-first-line = c .before .before .before .before .before .before .before .before .first-line in
-    let at-nodes = c .before .before .nodes in
+    let at-tables = c .before .before .p in
     let at-pre = c .before .before .before .before .before .before .before .before .before .before .before .before .before .before .before .pre in
     let kept : length (at-first-line .last .1 .1 .0) ≡ length (x .ltl .now) = search needs in
-    let few = first-few (x .line .now) (at-first-line .last .1 .0) (at-first-line .last .1 .1 .0) (at-first-line .result) (at-nodes .given .0 .0) (at-nodes .given .0 .1 .0) (at-first-line .ensures) (at-nodes .given .1) in
+    let few = first-few (x .line .now) (at-first-line .last .1 .0) (at-first-line .last .1 .1 .0) (at-first-line .result) (at-tables .given .0 .0) (at-tables .given .0 .1 .0) (at-first-line .ensures) (at-tables .given .1) in
     omega (arith, few .1, kept, at-pre .1)
 
 slice-aggregate-put-table : tie.Need-slice-aggregate-put-table
 slice-aggregate-put-table c = let x = c .before .before .before .before .before .before .before .before .before .before .before .before .before .before .before .before .args in
     let at-first-line = c .before .before .before .before .before .before .before .before .before .first-line in
-    let at-nodes = c .before .before .before .nodes in
+    let at-tables = c .before .before .before .p in
     let at-pre = c .before .before .before .before .before .before .before .before .before .before .before .before .before .before .before .before .pre in
     let kept : length (at-first-line .last .1 .1 .0) ≡ length (x .ltl .now) = search needs in
-    let few = first-few (x .line .now) (at-first-line .last .1 .0) (at-first-line .last .1 .1 .0) (at-first-line .result) (at-nodes .given .0 .0) (at-nodes .given .0 .1 .0) (at-first-line .ensures) (at-nodes .given .1) in
+    let few = first-few (x .line .now) (at-first-line .last .1 .0) (at-first-line .last .1 .1 .0) (at-first-line .result) (at-tables .given .0 .0) (at-tables .given .0 .1 .0) (at-first-line .ensures) (at-tables .given .1) in
     sym (length-take-le _ _ (omega (arith, few .1, kept, at-pre .1)))
 
 put-table-requires : tie.Need-put-table-requires
@@ -79,11 +79,11 @@ same-length-6 c = search needs
 returns-2 : tie.Need-returns-2
 returns-2 c = let x = c .before .before .before .before .before .before .before .before .before .before .before .before .before .before .before .before .before .before .before .args in
     let at-first-line = c .before .before .before .before .before .before .before .before .before .before .before .before .first-line in
-    let at-nodes = c .before .before .before .before .before .before .nodes in
+    let at-tables = c .before .before .before .before .before .before .p in
     let at-put-table = c .before .before .put-table in
-    let few = first-few (x .line .now) (at-first-line .last .1 .0) (at-first-line .last .1 .1 .0) (at-first-line .result) (at-nodes .given .0 .0) (at-nodes .given .0 .1 .0) (at-first-line .ensures) (at-nodes .given .1) in
-    let (wrote, short) = at-put-table .ensures (omega (arith, length-take (3 * at-nodes .given .0 .1 .0) (at-first-line .last .1 .1 .0), few .1)) in
-    first-tables (x .line .now) (x .out .now) (at-put-table .last .0) (at-first-line .last .1 .0) (at-first-line .last .1 .1 .0) (at-first-line .result) (at-first-line .ensures) (at-put-table .result) (at-nodes .given .0 .0) (at-nodes .given .0 .1 .0) (at-nodes .given .1) wrote short
+    let few = first-few (x .line .now) (at-first-line .last .1 .0) (at-first-line .last .1 .1 .0) (at-first-line .result) (at-tables .given .0 .0) (at-tables .given .0 .1 .0) (at-first-line .ensures) (at-tables .given .1) in
+    let (wrote, short) = at-put-table .ensures (omega (arith, length-take (3 * at-tables .given .0 .1 .0) (at-first-line .last .1 .1 .0), few .1)) in
+    first-tables (x .line .now) (x .out .now) (at-put-table .last .0) (at-first-line .last .1 .0) (at-first-line .last .1 .1 .0) (at-first-line .result) (at-first-line .ensures) (at-put-table .result) (at-tables .given .0 .0) (at-tables .given .0 .1 .0) (at-tables .given .1) wrote short
 
 pub answer-first-spec : {M : Type 1} → statement M
 answer-first-spec =
@@ -92,7 +92,7 @@ answer-first-spec =
     first-line-requires
     enum-known-x
     put-refused-requires
-    enum-known-nodes
+    enum-known-p
     mul-end
     slice-reshare-prefix-put-table
     slice-aggregate-put-table

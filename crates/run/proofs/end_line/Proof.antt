@@ -2,7 +2,6 @@
 use mathlib.Core.Path.{sym}
 use native.Mathlib.Omega.{arith}
 use lib.Seq.{length-take-le}
-use Rattle.answers.proofs.AnswerLaw.{tables-accepted}
 use Rattle.run.proofs.StreamLaw.{line-first, line-later}
 use borrow.Author.Needs.{needs}
 use Rattle.run.proofs.end_line.Statement.{statement}
@@ -49,20 +48,19 @@ slice-reshare-prefix-answer-later c = search needs
 
 slice-aggregate-answer-later-2 : tie.Need-slice-aggregate-answer-later-2
 slice-aggregate-answer-later-2 c = let at-pre = c .before .before .before .before .before .before .before .before .before .before .before .pre in
-    sym (length-take-le _ _ (omega (arith, at-pre .0 .nodes, at-pre .0 .pslRoom)))
+    sym (length-take-le _ _ (omega (arith, at-pre .0 .pslNodes, at-pre .0 .pslRoom)))
 
 slice-reshare-prefix-answer-later-2 : tie.Need-slice-reshare-prefix-answer-later-2
 slice-reshare-prefix-answer-later-2 c = search needs
 
 slice-aggregate-answer-later-3 : tie.Need-slice-aggregate-answer-later-3
 slice-aggregate-answer-later-3 c = let at-pre = c .before .before .before .before .before .before .before .before .before .before .before .before .pre in
-    sym (length-take-le _ _ (omega (arith, at-pre .0 .size, at-pre .0 .ltlRoom)))
+    sym (length-take-le _ _ (omega (arith, at-pre .0 .ltlNodes, at-pre .0 .ltlRoom)))
 
 answer-later-requires : tie.Need-answer-later-requires
 answer-later-requires c κs = let at-pre = c .before .before .before .before .before .before .before .before .before .before .before .before .before .pre in
     let at-if1 = c .before .before .before .before .before .before .before .if1 in
-    let (_, tables) = at-pre .0 .stored (omega (arith, at-if1 .left)) (at-pre .2) in
-    (at-pre .0 .numbered, omega (arith, at-pre .1 .few, at-pre .0 .outRoom), tables-accepted tables)
+    at-pre .0 .stored (omega (arith, at-if1 .left)) (at-pre .2)
 
 same-length-4 : tie.Need-same-length-4
 same-length-4 c = search needs

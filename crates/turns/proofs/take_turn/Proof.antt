@@ -3,7 +3,7 @@ use mathlib.Core.Path.{sym}
 use native.Mathlib.Omega.{arith}
 use lib.ListN.{length-take}
 use lib.Seq.{length-take-le}
-use Rattle.turns.proofs.TurnLaw.{turn-taken, turn-stopped, turn-idle}
+use Rattle.turns.proofs.TurnLaw.{block-taken, turn-taken, turn-stopped, turn-idle}
 use borrow.Author.Needs.{needs}
 use Rattle.turns.proofs.take_turn.Statement.{statement}
 use Rattle.turns.proofs.take_turn.Tie as tie
@@ -49,9 +49,7 @@ slice-aggregate-advance : tie.Need-slice-aggregate-advance
 slice-aggregate-advance c = search needs
 
 advance-requires : tie.Need-advance-requires
-advance-requires c κs = let x = c .before .before .before .before .before .before .before .before .before .before .before .before .before .before .before .before .before .args in
-    let pre = c .before .before .before .before .before .before .before .before .before .before .before .before .before .before .before .before .before .pre in
-    (pre .0, pre .1, omega (arith, length-take (c .before .before .before .before .before .count .result) (c .before .before .before .before .before .before .before .before .before .read .last .1 .0), c .before .before .before .before .before .before .before .before .block2 .given), omega (arith, c .before .before .before .before .before .before .before .before .before .before .before .if1 .left))
+advance-requires c κs = search needs
 
 slice-reshare-prefix-write-all : tie.Need-slice-reshare-prefix-write-all
 slice-reshare-prefix-write-all c = let done = c .before .before .before .before .before .before .before .before .advance in
@@ -77,10 +75,10 @@ same-length-4 : tie.Need-same-length-4
 same-length-4 c = search needs
 
 returns-3 : tie.Need-returns-3
-returns-3 c = let x = c .before .before .before .before .before .before .before .before .before .before .before .before .before .before .before .before .before .before .before .before .before .before .before .before .before .before .before .before .before .args in
-    let pre = c .before .before .before .before .before .before .before .before .before .before .before .before .before .before .before .before .before .before .before .before .before .before .before .before .before .before .before .before .before .pre in
-    let done = c .before .before .before .before .before .before .before .before .before .before .before .advance in
-    turn-taken _ (x .s) (done .result) (done .ensures)
+returns-3 c = let A = c .before .before .before .before .before .before .before .before .before .before .before in
+    let S = A .before .before .before .before .before .before .before .before .before .before .before .before .before .before .before .before .before .before in
+    let a = block-taken (S .pre .0) (S .pre .1) (omega (arith, length-take (A .before .before .before .before .before .before .count .result) (A .before .before .before .before .before .before .before .before .before .before .read .last .1 .0), A .before .before .before .before .before .before .before .before .before .block2 .given)) (omega (arith, A .before .before .before .before .before .before .before .before .before .before .before .before .if1 .left)) (A .advance .ensures) in
+    turn-taken _ (S .args .s) (A .advance .result) a
 
 slice-aggregate-fail : tie.Need-slice-aggregate-fail
 slice-aggregate-fail c = search needs
@@ -104,10 +102,10 @@ same-length-8 : tie.Need-same-length-8
 same-length-8 c = search needs
 
 returns-4 : tie.Need-returns-4
-returns-4 c = let x = c .before .before .before .before .before .before .before .before .before .before .before .before .before .before .before .before .before .before .before .before .before .before .before .before .before .before .before .before .before .before .before .before .args in
-    let pre = c .before .before .before .before .before .before .before .before .before .before .before .before .before .before .before .before .before .before .before .before .before .before .before .before .before .before .before .before .before .before .before .before .pre in
-    let done = c .before .before .before .before .before .before .before .before .before .before .before .before .before .before .advance in
-    turn-stopped (x .s) (done .result) (c .stop2 .result) (done .ensures .within) (c .stop2 .ensures)
+returns-4 c = let A = c .before .before .before .before .before .before .before .before .before .before .before .before .before .before in
+    let S = A .before .before .before .before .before .before .before .before .before .before .before .before .before .before .before .before .before .before in
+    let a = block-taken (S .pre .0) (S .pre .1) (omega (arith, length-take (A .before .before .before .before .before .before .count .result) (A .before .before .before .before .before .before .before .before .before .before .read .last .1 .0), A .before .before .before .before .before .before .before .before .before .block2 .given)) (omega (arith, A .before .before .before .before .before .before .before .before .before .before .before .before .if1 .left)) (A .advance .ensures) in
+    turn-stopped (S .args .s) (A .advance .result) (c .stop2 .result) (a .within) (c .stop2 .ensures)
 
 pub take-turn-spec : {M : Type 1} → statement M
 take-turn-spec =

@@ -1,12 +1,12 @@
--- `answers::later_line` meets its contract: the trace read, then both verdicts.
+-- `run::later_line` meets its contract: the trace read, then both verdicts.
 use mathlib.Core.Path.{sym, subst}
 use lib.Seq.{length-take-le}
 use Rattle.trace_lines.specs.TraceAnswer.{TraceAnswer}
 use Rattle.trace_lines.specs.declared.TraceLine.{TraceLine}
 use Rattle.answers.proofs.AnswerLaw.{room, later-refused, letters-few, later-judged}
 use borrow.Author.Needs.{needs}
-use Rattle.answers.proofs.later_line.Statement.{statement}
-use Rattle.answers.proofs.later_line.Tie as tie
+use Rattle.run.proofs.later_line.Statement.{statement}
+use Rattle.run.proofs.later_line.Tie as tie
 
 slice-aggregate-read-trace : tie.Need-slice-aggregate-read-trace
 slice-aggregate-read-trace c = search needs

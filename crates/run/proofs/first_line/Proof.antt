@@ -1,4 +1,4 @@
--- `answers::first_line` meets its contract: neither the reading nor the translation lacks room.
+-- `run::first_line` meets its contract: neither the reading nor the translation lacks room.
 use mathlib.Core.Path.{sym, subst}
 use native.Mathlib.Omega.{arith}
 use Prim.Native.Nat.{_*_}
@@ -8,10 +8,10 @@ use Rattle.formula_lines.specs.FormulaAnswer.{FormulaAnswer}
 use Rattle.formula_lines.specs.declared.FormulaLine.{FormulaLine}
 use Rattle.translate.specs.Answer.{Delivers}
 use Rattle.translate.specs.declared.Translation.{Translation}
 use Rattle.answers.proofs.AnswerLaw.{first-refused, first-few, first-translated, first-tables}
 use borrow.Author.Needs.{needs}
-use Rattle.answers.proofs.first_line.Statement.{statement}
-use Rattle.answers.proofs.first_line.Tie as tie
+use Rattle.run.proofs.first_line.Statement.{statement}
+use Rattle.run.proofs.first_line.Tie as tie
 
 read-formula-requires : tie.Need-read-formula-requires
 read-formula-requires c κs = search needs
@@ -19,23 +19,23 @@ read-formula-requires c κs = search needs
 enum-known-x : tie.Need-enum-known-x
 enum-known-x c = search needs
 
-enum-known-nodes : tie.Need-enum-known-nodes
-enum-known-nodes c = search needs
+enum-known-p : tie.Need-enum-known-p
+enum-known-p c = search needs
 
 mul-end : tie.Need-mul-end
 mul-end c = let E = c .before in let F = E .before .before .before .before in let st = F .before .before .before .before .before in
-    let a = subst (λ (x : FormulaLine). FormulaAnswer (st .args .line .now) (st .args .psl .now) x (F .read-formula .last .1 .0)) (E .nodes .given .1) (F .read-formula .ensures) in
-    omega (arith, first-few (st .args .line .now) (st .args .psl .now) (F .read-formula .last .1 .0) (st .pre .0) (E .nodes .given .0 .0) a .0)
+    let a = subst (λ (x : FormulaLine). FormulaAnswer (st .args .line .now) (st .args .psl .now) x (F .read-formula .last .1 .0)) (E .p .given .1) (F .read-formula .ensures) in
+    omega (arith, first-few (st .args .line .now) (st .args .psl .now) (F .read-formula .last .1 .0) (st .pre .0) (E .p .given .0 .0) a .0)
 
 slice-reshare-prefix-translate : tie.Need-slice-reshare-prefix-translate
 slice-reshare-prefix-translate c = let E = c .before in let F = E .before .before .before .before in let st = F .before .before .before .before .before in
-    let a = subst (λ (x : FormulaLine). FormulaAnswer (st .args .line .now) (st .args .psl .now) x (F .read-formula .last .1 .0)) (E .nodes .given .1) (F .read-formula .ensures) in
-    first-few (st .args .line .now) (st .args .psl .now) (F .read-formula .last .1 .0) (st .pre .0) (E .nodes .given .0 .0) a .1
+    let a = subst (λ (x : FormulaLine). FormulaAnswer (st .args .line .now) (st .args .psl .now) x (F .read-formula .last .1 .0)) (E .p .given .1) (F .read-formula .ensures) in
+    first-few (st .args .line .now) (st .args .psl .now) (F .read-formula .last .1 .0) (st .pre .0) (E .p .given .0 .0) a .1
 
 slice-aggregate-translate : tie.Need-slice-aggregate-translate
 slice-aggregate-translate c = let E = c .before .before in let F = E .before .before .before .before in let st = F .before .before .before .before .before in
-    let a = subst (λ (x : FormulaLine). FormulaAnswer (st .args .line .now) (st .args .psl .now) x (F .read-formula .last .1 .0)) (E .nodes .given .1) (F .read-formula .ensures) in
-    sym (length-take-le _ _ (first-few (st .args .line .now) (st .args .psl .now) (F .read-formula .last .1 .0) (st .pre .0) (E .nodes .given .0 .0) a .1))
+    let a = subst (λ (x : FormulaLine). FormulaAnswer (st .args .line .now) (st .args .psl .now) x (F .read-formula .last .1 .0)) (E .p .given .1) (F .read-formula .ensures) in
+    sym (length-take-le _ _ (first-few (st .args .line .now) (st .args .psl .now) (F .read-formula .last .1 .0) (st .pre .0) (E .p .given .0 .0) a .1))
 
 translate-requires : tie.Need-translate-requires
 translate-requires c κs = search needs
@@ -43,8 +43,8 @@ translate-requires c κs = search needs
 enum-known-x-2 : tie.Need-enum-known-x-2
 enum-known-x-2 c = search needs
 
-enum-known-size : tie.Need-enum-known-size
-enum-known-size c = search needs
+enum-known-q : tie.Need-enum-known-q
+enum-known-q c = search needs
 
 same-length : tie.Need-same-length
 same-length c = search needs
@@ -62,9 +62,9 @@ same-length-3 c = search needs
 
 returns-2 : tie.Need-returns-2
 returns-2 c = let X = c .before in let D = X .before .before .before .before in let E = D .before .before .before .before in let F = E .before .before .before .before in let st = F .before .before .before .before .before in
-    let a = subst (λ (x : FormulaLine). FormulaAnswer (st .args .line .now) (st .args .psl .now) x (F .read-formula .last .1 .0)) (E .nodes .given .1) (F .read-formula .ensures) in
-    let d = subst (λ (y : Translation). Delivers (take (3 * E .nodes .given .0 .0) (F .read-formula .last .1 .0)) (st .args .ltl .now) y (D .translate .last .1 .0)) (X .x2 .given .1) (D .translate .ensures) in
-    absurd (first-translated (st .args .line .now) (st .args .psl .now) (F .read-formula .last .1 .0) (st .pre .0) (E .nodes .given .0 .0) a (st .pre .1) d)
+    let a = subst (λ (x : FormulaLine). FormulaAnswer (st .args .line .now) (st .args .psl .now) x (F .read-formula .last .1 .0)) (E .p .given .1) (F .read-formula .ensures) in
+    let d = subst (λ (y : Translation). Delivers (take (3 * E .p .given .0 .0) (F .read-formula .last .1 .0)) (st .args .ltl .now) y (D .translate .last .1 .0)) (X .x2 .given .1) (D .translate .ensures) in
+    absurd (first-translated (st .args .line .now) (st .args .psl .now) (F .read-formula .last .1 .0) (st .pre .0) (E .p .given .0 .0) a (st .pre .1) d)
 
 same-length-4 : tie.Need-same-length-4
 same-length-4 c = search needs
@@ -74,9 +74,9 @@ same-length-5 c = search needs
 
 returns-3 : tie.Need-returns-3
 returns-3 c = let X = c .before in let D = X .before .before .before .before in let E = D .before .before .before .before in let F = E .before .before .before .before in let st = F .before .before .before .before .before in
-    let a = subst (λ (x : FormulaLine). FormulaAnswer (st .args .line .now) (st .args .psl .now) x (F .read-formula .last .1 .0)) (E .nodes .given .1) (F .read-formula .ensures) in
-    let d = subst (λ (y : Translation). Delivers (take (3 * E .nodes .given .0 .0) (F .read-formula .last .1 .0)) (st .args .ltl .now) y (D .translate .last .1 .0)) (X .size .given .1) (D .translate .ensures) in
-    first-tables (st .args .line .now) (st .args .psl .now) (F .read-formula .last .1 .0) (st .pre .0) (E .nodes .given .0 .0) a d
+    let a = subst (λ (x : FormulaLine). FormulaAnswer (st .args .line .now) (st .args .psl .now) x (F .read-formula .last .1 .0)) (E .p .given .1) (F .read-formula .ensures) in
+    let d = subst (λ (y : Translation). Delivers (take (3 * E .p .given .0 .0) (F .read-formula .last .1 .0)) (st .args .ltl .now) y (D .translate .last .1 .0)) (X .q .given .1) (D .translate .ensures) in
+    first-tables (st .args .line .now) (st .args .psl .now) (F .read-formula .last .1 .0) (st .pre .0) (E .p .given .0 .0) a d
 
 pub first-line-spec : {M : Type 1} → statement M
 first-line-spec =
@@ -84,13 +84,13 @@ first-line-spec =
     (tie.spec
     read-formula-requires
     enum-known-x
-    enum-known-nodes
+    enum-known-p
     mul-end
     slice-reshare-prefix-translate
     slice-aggregate-translate
     translate-requires
     enum-known-x-2
-    enum-known-size
+    enum-known-q
     same-length
     returns
     same-length-2
