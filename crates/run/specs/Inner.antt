@@ -17,7 +17,7 @@ use Rattle.text.specs.Inner.Writer.{Wrote}
 use Rattle.run.specs.Input.{endedLines, openLine}
 use Rattle.printing.specs.Printed.{refusedText, tableText}
 use Rattle.answers.specs.Answer.{LaterAnswer, laterText}
-use Rattle.printing.specs.Limits.{mostLater}
+use Rattle.printing.specs.Limits.{mostFirst, mostLater}
 use Rattle.answers.specs.Inner.{TablesOf, Accepted, FirstAnswer}
 use Rattle.run.specs.Whole.{PrintsTraces, Runs}
 use Rattle.answers.specs.declared.First.{First}
