@@ -23,7 +23,7 @@ use Rattle.printing.specs.Printed.{refusedText, tableText}
 use Rattle.printing.specs.Limits.{mostLater, mostFirst}
 use Rattle.run.specs.Whole.{Runs}
 use Rattle.answers.specs.Inner.{Accepted, FirstAnswer}
-use Rattle.run.specs.Inner.{Going, At, mostBlock, mostGathered, Within, Ready, ListsFit, CountsFit, Tested, Gathered, Remembers, FirstDone, LaterDone, LineDone, Keeps, Fed, Finished, Ends, Advanced, stopped, AdvancesOrStops, start, Turns, no-turn, one-turn, idle}
+use Rattle.run.specs.Inner.{Going, At, mostBlock, mostGathered, mostLines, Within, Ready, ListsFit, CountsFit, Tested, Gathered, Remembers, FirstDone, LaterDone, LineDone, Keeps, Fed, Finished, Ends, Advanced, stopped, AdvancesOrStops, start, Turns, no-turn, one-turn, idle}
 use Rattle.answers.specs.declared.First.{First}
 use Rattle.answers.specs.declared.First.the-variants as First
 use Rattle.run.specs.declared.State.{State}
@@ -51,6 +51,9 @@ within-as s r w number filled nodes size more =
 
 pub within-idle : {line psl ltl out : List ℕ} (s : State) → Within s line psl ltl out → Within (idle s) line psl ltl out
 within-idle s w = within-as s (idle s) w refl refl refl refl (λ m. (m, w .working m))
+
+none-yet : (s : State) → Gathered 0 (idle s)
+none-yet s = record { few = omega arith; first = λ _. refl }
 
 -- ── Answers ──
 
@@ -188,6 +191,13 @@ kept-length line line′ at b next (more, full) h = go (ltb at (length line)) re
     go : (t : Bool) → ltb at (length line) ≡ t → (length line′ ≡ length line) × (next ≤ length line)
     go true t = let (p, q) = more (ltb-true at (length line) t) in (ap length p ∙ length-set line at b, omega (arith, q, ltb-true at (length line) t))
     go false t = let (p, q) = full (ltb-false at (length line) t) in (ap length p, omega (arith, q))
+
+-- What the end of a line in the block needs.
+pub line-ready : {block line₀ psl₀ ltl₀ line psl ltl out : List ℕ} {s r : State} {i : ℕ} → Feeding block line₀ psl₀ ltl₀ s line psl ltl out r i → i < length block
+    → length block ≤ mostBlock → s .number + length block ≤ mostLines
+    → Within r line psl ltl out × Gathered mostGathered r × (r .more ≡ true) × (r .number < mostLines)
+line-ready f low short counted =
+    (f .within, record { few = omega (arith, f .gathered .few); first = f .gathered .first }, f .more, omega (arith, f .number))
 
 module _ {block line₀ psl₀ ltl₀ line psl ltl out : List ℕ} {s : State} (r : State) (i : ℕ) (f : Feeding block line₀ psl₀ ltl₀ s line psl ltl out r i)
     (h : i < length block) (b : ℕ) (e : b ≡ getD block i 0) where
@@ -382,6 +392,15 @@ module _ {block line psl ltl out : List ℕ} {s : State} where
         more = y .more;
         works = w .working (y .more);
       }
+
+  -- What the end of the input, and the bytes of a block, need.
+  pub finish-ready : Ready block s line psl ltl out
+      → Within (idle s) line psl ltl out × Gathered 0 (idle s) × (s .more ≡ true) × (s .number < mostLines)
+  finish-ready y = (within-idle s (y .within), none-yet s, y .more, omega (arith, y .counted))
+
+  pub feed-ready : Ready block s line psl ltl out
+      → Within (idle s) line psl ltl out × Gathered 0 (idle s) × (s .more ≡ true) × (length block ≤ mostBlock) × (s .number + length block ≤ mostLines)
+  feed-ready y = (within-idle s (y .within), none-yet s, y .more, y .short, omega (arith, y .short, y .counted))
 
   -- A block that can be taken was.
   pub taken : {r : State} {line′ psl′ ltl′ out′ : List ℕ} → Ready block s line psl ltl out → Advanced block line psl ltl s r line′ psl′ ltl′ out′

@@ -51,7 +51,7 @@ pub record At (read out : List ℕ) (s : State) (line psl ltl : List ℕ) : Type
 
 -- ── Bounds ──
 
--- The most bytes of a block of input, those that it can gather, and the room for these: it is never filled up.
+-- The most bytes of a block of input, those that it can gather, and the room for these: one answer more would fit, so that it is never filled up.
 abbrev pub mostBlock : ℕ
 mostBlock = 4096
 

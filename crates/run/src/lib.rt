@@ -25,18 +25,23 @@ ghost use Rattle.run.specs.Inner.{mostBlock, mostGathered, mostLines, Wi
 
 // A line's bytes that are kept: one more than a line may have, so that a longer one is seen to be.
 pub const LINE_ROOM: usize = MOST_BYTES + 1;
+
 // Room for the numbers of the largest tables.
 pub const PSL_ROOM: usize = 3 * psl::MOST_NODES;
 
 pub const LTL_ROOM: usize = 3 * ltl::MOST_NODES;
+
 // The most bytes of a block of input.
 pub const BLOCK: usize = 4096;
+
 // The most bytes of the answer to line 1, and of that to a later one.
 const MOST_FIRST: usize = 107000;
 
 const MOST_LATER: usize = 60;
-// Room for what a block prints, and never filled up: an answer to line 1, and one for each byte.
+
+// Room for what a block prints, an answer to line 1 and one for each byte. One answer more would fit, so that it is never filled up.
 pub const OUT_ROOM: usize = MOST_FIRST + MOST_LATER * BLOCK + MOST_LATER + 1;
+
 // Line numbers above this could overflow within a block.
 pub const LAST_LINE: u64 = u64::MAX - BLOCK as u64;
 
@@ -50,7 +55,7 @@ pub struct State {
     pub ltl_nodes: usize,
     // The bytes gathered for output.
     pub gathered: usize,
-    // Whether the run goes on, and whether it stopped because reading or writing failed.
+    // Whether the run goes on, and whether it stopped on a failure: to read, to write, or to take a block.
     pub more: bool,
     pub failed: bool,
 }

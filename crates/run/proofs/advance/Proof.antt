@@ -1,9 +1,7 @@
 -- The tests, then the input's end or the bytes of a block.
-use mathlib.Core.Path.{refl}
-use native.Mathlib.Omega.{arith}
 use borrow.Author.Tests.{not-true, not-false}
 use Rattle.run.specs.Inner.{Ready}
-use Rattle.run.proofs.StreamLaw.{within-idle, passed, failed, taken, turned-away, advance-end, advance-on}
+use Rattle.run.proofs.StreamLaw.{finish-ready, feed-ready, passed, failed, taken, turned-away, advance-end, advance-on}
 use borrow.Author.Needs.{needs}
 use Rattle.run.proofs.advance.Statement.{statement}
 use Rattle.run.proofs.advance.Tie as tie
@@ -37,9 +35,7 @@ returns : tie.Need-returns
 returns c = turned-away (failed (c .before .before .sound .result) (c .before .before .sound .ensures) (not-true _ (c .before .if1 .taken))) (c .stop .ensures)
 
 finish-requires : tie.Need-finish-requires
-finish-requires c κs = let E = c .before .before .before .before .before in
-    let y = can E in
-    (within-idle (start E .args .s) (y .within), record { few = omega arith; first = λ _. refl }, y .more, omega (arith, y .counted))
+finish-requires c κs = finish-ready (can (c .before .before .before .before .before))
 
 same-length-5 : tie.Need-same-length-5
 same-length-5 c = search needs
@@ -60,9 +56,7 @@ returns-2 c = let F = c .before .before .before .before .before .before in
     taken (can E) (advance-end (start E .args .s) (F .finish .result) (T .if2 .taken) (F .finish .ensures))
 
 feed-requires : tie.Need-feed-requires
-feed-requires c κs = let E = c .before .before .before .before .before in
-    let y = can E in
-    (within-idle (start E .args .s) (y .within), record { few = omega arith; first = λ _. refl }, y .more, y .short, omega (arith, y .short, y .counted))
+feed-requires c κs = feed-ready (can (c .before .before .before .before .before))
 
 same-length-9 : tie.Need-same-length-9
 same-length-9 c = search needs

@@ -5,7 +5,7 @@ use borrow.Author.Needs.{needs}
 use borrow.Author.Tests.{not-true, not-false}
 use Prim.Native.Nat.{_-_}
 use lib.ListN.{length, getD}
-use Rattle.run.proofs.StreamLaw.{Feeding, feeding-start, feeding-byte, feeding-line, feeding-over, feeding-end}
+use Rattle.run.proofs.StreamLaw.{Feeding, feeding-start, line-ready, feeding-byte, feeding-line, feeding-over, feeding-end}
 use Rattle.run.proofs.feed.Statement.{statement}
 use Rattle.run.proofs.feed.Tie as tie
 
@@ -26,12 +26,9 @@ add-i : tie.Need-add-i Inv-loop μ-loop
 add-i c = search needs
 
 end-line-requires : tie.Need-end-line-requires Inv-loop μ-loop
-end-line-requires c κs = let L = c .before .before .before .before .before .before .before .loop in
-    let x = c .before .before .before .before .before .before .before .before .before .before .before .before .before .args in
-    let pre = c .before .before .before .before .before .before .before .before .before .before .before .before .before .pre in
-    let low = c .before .before .before .before .before .before .loop-test .taken in
-    let f = L .inv in
-    (f .within, record { few = omega (arith, f .gathered .few, pre .3); first = f .gathered .first }, f .more, omega (arith, f .number, pre .4))
+end-line-requires c κs = let I = c .before .before .before .before .before .before in
+    let pre = I .before .before .before .before .before .before .before .pre in
+    line-ready (I .before .loop .inv) (I .loop-test .taken) (pre .3) (pre .4)
 
 same-length : tie.Need-same-length Inv-loop μ-loop
 same-length c = search needs
