@@ -67,11 +67,11 @@ fn put_numbers(out: &mut [u8], at: usize, n: u16, p: u16, q: u16) -> usize
 }
 
 // A node's line.
-pub fn put_line(out: &mut [u8], at: usize, own: u16, kind: u16, left: u16, right: u16) -> usize
-    ensures { λ r. ⌜ Wrote (nodeLine own (node kind left right)) (now (out .entry)) (now (out .exit)) at r ⌝ }
+pub fn put_line(out: &mut [u8], at: usize, no: NodeNo, kind: u16, left: u16, right: u16) -> usize
+    ensures { λ r. ⌜ Wrote (nodeLine (no .0) (node kind left right)) (now (out .entry)) (now (out .exit)) at r ⌝ }
 {
     let a = put_text(out, at, b"(");
-    let b = put_number(out, a, own as u64);
+    let b = put_number(out, a, no.0 as u64);
     let c = put_text(out, b, b" ");
     let d = put_word(out, c, kind);
     let e = put_numbers(out, d, places(kind), left, right);
@@ -95,15 +95,14 @@ pub fn write_node(no: NodeNo, kind: u16, left: u16, right: u16, out: &mut [u8]) 
     ensures { λ x. ⌜ x ≡ nodeAnswer (no .0) (node kind left right) (length (now (out .entry))) ⌝ }
     ensures { λ x. ⌜ now (out .exit) ≡ nodeList x (nodeLine (no .0) (node kind left right)) (now (out .entry)) ⌝ }
 {
-    let own = no.0;
-    if MOST_NODES <= own {
+    if MOST_NODES <= no.0 {
         return NodeLine::Refused(Refusal(11));
     }
     match check_alone(no, kind, left, right) {
         Checked::Refused(x) => NodeLine::Refused(x),
         Checked::Accepted => {
             let mut line = [0u8; LINE_ROOM];
-            let n = put_line(&mut line, 0, own, kind, left, right);
+            let n = put_line(&mut line, 0, no, kind, left, right);
             if out.len() < n {
                 return NodeLine::Refused(Refusal(24));
             }

@@ -63,12 +63,10 @@ pub no-lines : {l : List ℕ} {at : ℕ} (t : List ℕ) → Wrote (nodeLines t 0
 unfolding nodeLines
 no-lines t = wrote-none
 
-pub line-more : {l m n : List ℕ} {a b c : ℕ} (t : List ℕ) (i j : ℕ) → i ≡ j → Wrote (nodeLines t i) l m a b → Wrote (nodeLine j (nodeAt t i)) m n b c
+pub line-more : {l m n : List ℕ} {a b c : ℕ} (t : List ℕ) (i : ℕ) → Wrote (nodeLines t i) l m a b → Wrote (nodeLine i (nodeAt t i)) m n b c
     → Wrote (nodeLines t (i + 1)) l n a c
 unfolding nodeLines
-line-more {l} {m} {n} {a} {b} {c} t i j e p q =
-    subst (λ (k : ℕ). Wrote (nodeLines t k) l n a c) (sym (add-one i))
-    (wrote-join p (subst (λ (k : ℕ). Wrote (nodeLine k (nodeAt t i)) m n b c) (sym e) q))
+line-more {l} {n = n} {a} {c = c} t i p q = subst (λ (k : ℕ). Wrote (nodeLines t k) l n a c) (sym (add-one i)) (wrote-join p q)
 
 pub table-wrote : {l₀ l₁ l₂ l₃ l₄ : List ℕ} {at a b c d : ℕ} (t : List ℕ) (i : ℕ) → i ≡ count t → Wrote (text "(ltl ") l₀ l₁ at a → Wrote (digits (count t)) l₁ l₂ a b
     → Wrote (text ")\n") l₂ l₃ b c → Wrote (nodeLines t i) l₃ l₄ c d → Wrote (tableText t) l₀ l₄ at d
@@ -86,6 +84,6 @@ module _ (t : List ℕ) (small : (i : ℕ) → getD t i 0 < 65536) where
       let one = line-length k (kindAt t k) (leftAt t k) (rightAt t k) (omega arith) (small (3 * k + 1)) (small (3 * k + 2)) in
       omega (arith, length-append (nodeLines t k) (nodeLine k (nodeAt t k)), lines-short k (omega arith), one)
 
-  pub table-short : length t ≤ 3 * ltlRules .most → length (tableText t) ≤ mostFirst
+  pub table-short : count t ≤ ltlRules .most → length (tableText t) ≤ mostFirst
   unfolding tableText
   table-short h = simp length-append (omega (arith, digits-short 3 (count t) (omega arith), lines-short (count t) (omega arith)))

@@ -1,15 +1,15 @@
 // The text of a run's answers, put into a lent list.
 use node_lines::put_line;
+use table::NodeNo;
 use text::put::put_number;
 use text::put::put_text;
 use trace::Refusal;
 use verdict::Verdict;
-ghost use Prim.Native.Nat.{_+_, _*_, _≤_};
-ghost use lib.ListN.{length};
-ghost use Rattle.ltl.specs.Check.{ltlRules};
+ghost use Prim.Native.Nat.{_+_, _≤_};
 ghost use Rattle.text.specs.Inner.Writer.{Wrote};
-ghost use Rattle.printing.specs.Printed.{refusedText, verdictText, traceText, tableText};
-ghost use Rattle.printing.specs.Limits.{mostFirst, mostLater, longestVerdict};
+ghost use Rattle.printing.specs.Printed.{refusedText, verdictText, traceText};
+ghost use Rattle.printing.specs.Limits.{mostLater, longestVerdict};
+ghost use Rattle.printing.specs.Inner.{TableWrote};
 
 // `(refused L R)`
 pub fn put_refused(out: &mut [u8], at: usize, line: u64, x: Refusal) -> usize
@@ -45,24 +45,21 @@ pub fn put_trace(out: &mut [u8], at: usize, trace: u64, psl: Verdict, ltl: Verdi
     put_text(out, f, b")\n")
 }
 
-// `(ltl S)` and the node lines of an LTL table, where it has no more nodes than a table may have.
+// `(ltl S)` and the node lines of an LTL table; nothing where it has more nodes than a table may have.
 pub fn put_table(out: &mut [u8], at: usize, t: &[u16]) -> usize
-    ensures { λ r. ⌜ (length (now (t .entry)) ≤ 3 * ltlRules .most → Wrote (tableText (now (t .entry))) (now (out .entry)) (now (out .exit)) at r × (r ≤ at + mostFirst)) ⌝ }
+    ensures { λ r. ⌜ TableWrote (now (t .entry)) (now (out .entry)) (now (out .exit)) at r ⌝ }
 {
     let nodes = t.len() / 3;
+    if ltl::MOST_NODES < nodes {
+        return at;
+    }
     let a = put_text(out, at, b"(ltl ");
     let b = put_number(out, a, nodes as u64);
     let mut to = put_text(out, b, b")\n");
     let mut i: usize = 0;
     while i < nodes {
-        to = put_line(
-            out,
-            to,
-            (i % 65536) as u16,
-            t[3 * i],
-            t[3 * i + 1],
-            t[3 * i + 2],
-        );
+        let own = i as u16;
+        to = put_line(out, to, NodeNo(own), t[3 * i], t[3 * i + 1], t[3 * i + 2]);
         i += 1;
     }
     to

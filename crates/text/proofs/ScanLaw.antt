@@ -131,7 +131,7 @@ module _ (limit n d v : ℕ) where
 pub word-none : (w s : List ℕ) (at : ℕ) → at ≤ length s → Stands (take 0 w) s at (at + 0)
 word-none w s at h = rw add-zero (record { is = refl; after = omega arith; within = h })
 
-module _ (w s : List ℕ) (at i : ℕ) (a : at ≤ length s → Stands (take i w) s at (at + i)) where
+module _ (w s : List ℕ) (at i : ℕ) (low : i ≤ length s - at) (a : at ≤ length s → Stands (take i w) s at (at + i)) where
   pub word-more : i < length w → at + i < length s → byteAt s (at + i) ≡ getD w i 0 → Stands (take (i + 1) w) s at (at + (i + 1))
   word-more h g e =
       let f : take i w ++ (getD w i 0 ∷ []) ≡ take (i + 1) w = sym (ap (λ (j : ℕ). take j w) (add-one i) ∙ take-suc w i 0 h) in
@@ -154,8 +154,13 @@ module _ (w s : List ℕ) (at i : ℕ) (a : at ≤ length s → Stands (take i w
                   z (agree-byte (at + i) (omega arith) g
                   ∙ byte-drop s′ (at + i) (getD w i 0) (drop (suc i) w ++ t) (append-cancel-left (take i w) _ _ x));
             };
+        past = λ k. omega arith;
       }
 
   pub word-whole : length w ≤ i → i ≤ length w → WordRead w s at (at + i)
   word-whole h g =
-      record { whole = λ k _. subst (λ (x : List ℕ). Stands x s at (at + i)) (take-all i w h) (a k); part = λ _ z. absurd (z (omega arith)) }
+      record {
+        whole = λ k _. subst (λ (x : List ℕ). Stands x s at (at + i)) (take-all i w h) (a k);
+        part = λ _ z. absurd (z (omega arith));
+        past = λ k. omega arith;
+      }

@@ -43,7 +43,7 @@ returns c =
     let at = x .at in
     let r = at-read-number .read-number in
     let g = at-p .p .given in
-    λ l. signal-no (subst (NumberRead s at (signals - 1)) (g .1) (r .ensures) (start .pre .within))
+    λ l. signal-no (subst (NumberRead s at (signals - 1)) (g .1) (r .ensures) .0 (start .pre .within))
 
 returns-2 : tie.Need-returns-2
 returns-2 c =

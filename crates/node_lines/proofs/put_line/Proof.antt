@@ -14,6 +14,9 @@ slice-aggregate-put-text c = search needs
 put-text-requires : tie.Need-put-text-requires
 put-text-requires c κs = search needs
 
+cast-put-number : tie.Need-cast-put-number
+cast-put-number c = search needs
+
 put-number-requires : tie.Need-put-number-requires
 put-number-requires c κs = search needs
 
@@ -43,16 +46,16 @@ same-length c = search needs
 
 returns : tie.Need-returns
 returns c =
-    let x = c .before .before .before .before .before .before .before .before .before .before .before .before .before .before .before .before .before .before .before .before .before .before .before .before .before .before .before .before .before .args in
+    let x = c .before .before .before .before .before .before .before .before .before .before .before .before .before .before .before .before .before .before .before .before .before .before .before .before .before .before .before .before .before .before .args in
     let at-put-word = c .before .before .before .before .before .before .before .before .before .before .before .before .put-word in
     let at-put-numbers = c .before .before .before .before .before .before .before .put-numbers in
     let at-places = c .before .before .before .before .before .before .before .before .places in
-    let at-put-text = c .before .before .before .before .before .before .before .before .before .before .before .before .before .before .before .before .before .before .before .before .before .before .before .before .before .put-text in
+    let at-put-text = c .before .before .before .before .before .before .before .before .before .before .before .before .before .before .before .before .before .before .before .before .before .before .before .before .before .before .put-text in
     let at-put-number = c .before .before .before .before .before .before .before .before .before .before .before .before .before .before .before .before .before .before .before .before .before .put-number in
     let at-put-text2 = c .before .before .before .before .before .before .before .before .before .before .before .before .before .before .before .before .put-text2 in
     let at-put-text3 = c .before .before .put-text3 in
     let numbers = subst (λ (n : ℕ). Wrote (spaced n (x .left) (x .right)) (at-put-word .last .0) (at-put-numbers .last .0) (at-put-word .result) (at-put-numbers .result)) (at-places .ensures) (at-put-numbers .ensures) in
-    line-wrote (x .own) (x .kind) (x .left) (x .right) (at-put-text .ensures) (at-put-number .ensures) (at-put-text2 .ensures) (at-put-word .ensures) numbers (at-put-text3 .ensures)
+    line-wrote (x .no .0) (x .kind) (x .left) (x .right) (at-put-text .ensures) (at-put-number .ensures) (at-put-text2 .ensures) (at-put-word .ensures) numbers (at-put-text3 .ensures)
 
 pub put-line-spec : {M : Type 1} → statement M
 put-line-spec =
@@ -60,6 +63,7 @@ put-line-spec =
     (tie.spec
     slice-aggregate-put-text
     put-text-requires
+    cast-put-number
     put-number-requires
     slice-aggregate-put-text-2
     put-text-requires-2

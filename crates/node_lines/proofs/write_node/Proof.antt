@@ -11,7 +11,7 @@ use Rattle.node_lines.proofs.write_node.Tie as tie
 
 returns : tie.Need-returns
 returns c =
-    let x = c .before .before .args in
+    let x = c .before .before .before .args in
     let at-if1 = c .if1 in
     own-large (x .no .0) (x .kind) (x .left) (x .right) (x .out .now) (at-if1 .taken)
 
@@ -32,7 +32,7 @@ put-line-requires c κs = search needs
 
 returns-2 : tie.Need-returns-2
 returns-2 c =
-    let x = c .before .before .before .before .before .before .before .before .before .args in
+    let x = c .before .before .before .before .before .before .before .before .before .before .args in
     let at-if1 = c .before .before .before .before .before .before .before .if1 in
     let at-check-alone = c .before .before .before .before .before .before .check-alone in
     let at-enum-told = c .before .before .before .before .enum-told in
@@ -54,7 +54,7 @@ put-text-requires c κs = search needs
 
 returns-3 : tie.Need-returns-3
 returns-3 c =
-    let x = c .before .before .before .before .before .before .args in
+    let x = c .before .before .before .before .before .before .before .args in
     let at-if1 = c .before .before .before .before .if1 in
     let at-check-alone = c .before .before .before .check-alone in
     let at-x = c .before .x in
@@ -65,7 +65,7 @@ same-length c = search needs
 
 returns-4 : tie.Need-returns-4
 returns-4 c =
-    let x = c .before .before .before .before .before .before .before .before .before .before .before .before .before .before .args in
+    let x = c .before .before .before .before .before .before .before .before .before .before .before .before .before .before .before .args in
     let at-if1 = c .before .before .before .before .before .before .before .before .before .before .before .before .if1 in
     let at-check-alone = c .before .before .before .before .before .before .before .before .before .before .before .check-alone in
     let at-enum-told = c .before .before .before .before .before .before .before .before .before .enum-told in

@@ -1,9 +1,8 @@
 -- The head, then a line a node.
 use mathlib.Core.Path.{_≡_, refl}
 use native.Mathlib.Omega.{arith}
-use Prim.Native.Nat.{_*_, _-_, _%_, _≤_}
+use Prim.Native.Nat.{_-_, _≤_}
 use lib.ListN.{length}
-use Rattle.ltl.specs.Check.{ltlRules}
 use Rattle.text.specs.Inner.Writer.{Wrote}
 use Rattle.text.proofs.WriterLaw.{wrote-end}
 use Rattle.printing.specs.Printed.{nodeLines}
@@ -13,10 +12,13 @@ use Rattle.printing.proofs.put_table.Statement.{statement}
 use Rattle.printing.proofs.put_table.Tie as tie
 
 abbrev Inv-loop : tie.InvT-loop
-Inv-loop out₀ at t nodes a b to₀ i₀ out to i = (i ≤ nodes) × (length out ≡ length out₀) × (length t ≤ 3 * ltlRules .most → Wrote (nodeLines t i) out₀ out to₀ to)
+Inv-loop out₀ at t nodes a b to₀ i₀ out to i = (i ≤ nodes) × (length out ≡ length out₀) × Wrote (nodeLines t i) out₀ out to₀ to
 
 abbrev μ-loop : tie.MeasureT-loop
 μ-loop out₀ at t nodes a b to₀ i₀ out to i = nodes - i
+
+returns : tie.Need-returns Inv-loop μ-loop
+returns c = record { table = λ h. absurd (omega arith); none = λ _. (refl, refl); short = omega arith }
 
 slice-aggregate-put-text : tie.Need-slice-aggregate-put-text Inv-loop μ-loop
 slice-aggregate-put-text c = search needs
@@ -35,11 +37,11 @@ put-text-requires-2 c κs = search needs
 
 loop-holds : tie.Need-loop-holds Inv-loop μ-loop
 loop-holds c =
-    let x = c .before .before .before .before .before .before .before .before .before .before .before .before .before .before .before .before .args in
-    (omega arith, refl, λ _. no-lines (x .t .now))
+    let x = c .before .before .before .before .before .before .before .before .before .before .before .before .before .before .before .before .before .args in
+    (omega arith, refl, no-lines (x .t .now))
 
-cast-put-line : tie.Need-cast-put-line Inv-loop μ-loop
-cast-put-line c = search needs
+cast-own : tie.Need-cast-own Inv-loop μ-loop
+cast-own c = search needs
 
 mul-put-line : tie.Need-mul-put-line Inv-loop μ-loop
 mul-put-line c = search needs
@@ -85,26 +87,29 @@ loop-less c = search needs
 
 loop-again : tie.Need-loop-again Inv-loop μ-loop
 loop-again c =
-    let x = c .before .before .before .before .before .before .before .before .before .before .before .before .before .before .before .before .before .before .before .before .before .before .before .before .before .args in
+    let x = c .before .before .before .before .before .before .before .before .before .before .before .before .before .before .before .before .before .before .before .before .before .before .before .before .before .before .args in
     let at-loop = c .before .before .before .before .before .before .before .before .loop in
     let at-put-line = c .before .before .put-line in
-    (omega arith, search needs, λ few. line-more (x .t .now) (at-loop .i) (at-loop .i % 65536) (omega (arith, few)) (at-loop .inv .2 few) (at-put-line .ensures))
+    (omega arith, search needs, line-more (x .t .now) (at-loop .i) (at-loop .inv .2) (at-put-line .ensures))
 
 same-length : tie.Need-same-length Inv-loop μ-loop
 same-length c = search needs
 
-returns : tie.Need-returns Inv-loop μ-loop
-returns c =
-    let x = c .before .before .before .before .before .before .before .before .before .before .before .before .before .before .before .before .before .before .args in
+returns-2 : tie.Need-returns-2 Inv-loop μ-loop
+returns-2 c =
+    let x = c .before .before .before .before .before .before .before .before .before .before .before .before .before .before .before .before .before .before .before .args in
     let at-loop = c .before .loop in
     let at-loop-test = c .loop-test in
     let at-put-text = c .before .before .before .before .before .before .before .before .before .before .before .before .before .put-text in
     let at-put-number = c .before .before .before .before .before .before .before .before .before .put-number in
     let at-put-text2 = c .before .before .before .before .put-text2 in
-    let at-shared-slice-known = c .before .before .before .before .before .before .before .before .before .before .before .before .before .before .before .before .shared-slice-known in
-    λ few.
-    let wrote = table-wrote (x .t .now) (at-loop .i) (omega (arith, at-loop .inv .0, at-loop-test .left)) (at-put-text .ensures) (at-put-number .ensures) (at-put-text2 .ensures) (at-loop .inv .2 few) in
-    (wrote, omega (arith, wrote-end wrote, table-short (x .t .now) (λ i. omega (arith, at-shared-slice-known .given i)) few))
+    let at-shared-slice-known = c .before .before .before .before .before .before .before .before .before .before .before .before .before .before .before .before .before .shared-slice-known in
+    let wrote = table-wrote (x .t .now) (at-loop .i) (omega (arith, at-loop .inv .0, at-loop-test .left)) (at-put-text .ensures) (at-put-number .ensures) (at-put-text2 .ensures) (at-loop .inv .2) in
+    record {
+      table = λ _. wrote;
+      none = λ h. absurd (omega arith);
+      short = omega (arith, wrote-end wrote, table-short (x .t .now) (λ i. omega (arith, at-shared-slice-known .given i)) (omega arith));
+    }
 
 pub put-table-spec : {M : Type 1} → statement M
 put-table-spec =
@@ -112,13 +117,14 @@ put-table-spec =
     (tie.spec
     Inv-loop
     μ-loop
+    returns
     slice-aggregate-put-text
     put-text-requires
     put-number-requires
     slice-aggregate-put-text-2
     put-text-requires-2
     loop-holds
-    cast-put-line
+    cast-own
     mul-put-line
     mul-put-line-2
     shared-slice-read-put-line
@@ -135,4 +141,4 @@ put-table-spec =
     loop-less
     loop-again
     same-length
-    returns)
+    returns-2)

@@ -82,8 +82,9 @@ returns-2 c = let x = c .before .before .before .before .before .before .before 
     let at-tables = c .before .before .before .before .before .before .p in
     let at-put-table = c .before .before .put-table in
     let few = first-few (x .line .now) (at-first-line .last .1 .0) (at-first-line .last .1 .1 .0) (at-first-line .result) (at-tables .given .0 .0) (at-tables .given .0 .1 .0) (at-first-line .ensures) (at-tables .given .1) in
-    let (wrote, short) = at-put-table .ensures (omega (arith, length-take (3 * at-tables .given .0 .1 .0) (at-first-line .last .1 .1 .0), few .1)) in
-    first-tables (x .line .now) (x .out .now) (at-put-table .last .0) (at-first-line .last .1 .0) (at-first-line .last .1 .1 .0) (at-first-line .result) (at-first-line .ensures) (at-put-table .result) (at-tables .given .0 .0) (at-tables .given .0 .1 .0) (at-tables .given .1) wrote short
+    let printed = at-put-table .ensures in
+    let wrote = printed .table (omega (arith, length-take (3 * at-tables .given .0 .1 .0) (at-first-line .last .1 .1 .0), few .1)) in
+    first-tables (x .line .now) (x .out .now) (at-put-table .last .0) (at-first-line .last .1 .0) (at-first-line .last .1 .1 .0) (at-first-line .result) (at-first-line .ensures) (at-put-table .result) (at-tables .given .0 .0) (at-tables .given .0 .1 .0) (at-tables .given .1) wrote (printed .short)
 
 pub answer-first-spec : {M : Type 1} → statement M
 answer-first-spec =

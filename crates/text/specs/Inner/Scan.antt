@@ -26,13 +26,14 @@ pub record NumberStands (n : ℕ) (s : List ℕ) (at next : ℕ) : Type 0 where
   pub more : at < next
   pub ends : NoDigit (drop next s)
 
--- A number; or the place at which none can follow any more, where `at` is no further than the line's end.
+-- A number; or the place at which none can follow any more, which is `at` itself past the line's end.
 abbrev pub NumberRead : List ℕ → ℕ → ℕ → Number → Type 0
 NumberRead s at limit (Small v next) = (v ≤ limit) × NumberStands v s at next
 NumberRead s at limit (Large next) = (n : ℕ) × (limit < n) × NumberStands n s at next
-NumberRead s at limit (FaultAt p) = at ≤ length s → Halts Numeral Numbered s at p
+NumberRead s at limit (FaultAt p) = (at ≤ length s → Halts Numeral Numbered s at p) × (length s < at → p ≡ at)
 
--- A word stands whole, or up to r, where `at` is no further than the line's end.
+-- A word stands whole, or up to r; past the line's end nothing stands.
 pub record WordRead (w s : List ℕ) (at r : ℕ) : Type 0 where
   pub whole : at ≤ length s → r ≡ at + length w → Stands w s at r
   pub part : at ≤ length s → (r ≡ at + length w → ⊥) → Stops (λ v. v ≡ w) s at r
+  pub past : length s < at → r ≡ at

@@ -52,7 +52,7 @@ returns c =
     let x = start .args in
     let s = x .s .now in
     let at = x .at in
-    subst (NumberRead s at (2 ^ signals - 1)) (at-p .p .given .1) (at-read-number .read-number .ensures) (start .pre .within)
+    subst (NumberRead s at (2 ^ signals - 1)) (at-p .p .given .1) (at-read-number .read-number .ensures) .0 (start .pre .within)
 
 returns-2 : tie.Need-returns-2
 returns-2 c =

@@ -26,7 +26,7 @@ returns c =
     let at-digit = c .before in
     let s = start .args .s .now in
     let at = start .args .at in
-    λ h. number-none s at h (at-digit .digit .ensures .none (omega arith))
+    (λ h. number-none s at h (at-digit .digit .ensures .none (omega arith)), λ _. refl)
 
 add-digit : tie.Need-add-digit Inv-loop μ-loop
 add-digit c =
@@ -49,7 +49,8 @@ returns-2 c =
     let at-digit2 = c .before in
     let s = start .args .s .now in
     let at = start .args .at in
-    λ _. number-zeros s at (subst (λ (d : ℕ). Stands ((48 + d) ∷ []) s at (at + 1)) (at-if2 .if2 .taken) (at-digit .digit .ensures .is (omega arith))) (at-digit2 .digit2 .result) (c .if3 .taken) (at-digit2 .digit2 .ensures .is (c .if3 .taken))
+    let zero = at-digit .digit .ensures .is (omega arith) in
+    (λ _. number-zeros s at (subst (λ (d : ℕ). Stands ((48 + d) ∷ []) s at (at + 1)) (at-if2 .if2 .taken) zero) (at-digit2 .digit2 .result) (c .if3 .taken) (at-digit2 .digit2 .ensures .is (c .if3 .taken)), λ h. absurd (omega (arith, zero .within)))
 
 add-t10 : tie.Need-add-t10 Inv-loop μ-loop
 add-t10 c =

@@ -49,7 +49,7 @@ returns c =
     let s = start .args .s .now in
     let w = start .args .w .now in
     let at = start .args .at in
-    word-part w s at (at-loop .loop .i) (at-loop .loop .inv .2) (at-loop-test .loop-test .taken) (λ e. c .if1 .taken (at-byte .byte .ensures .0 ∙ e))
+    word-part w s at (at-loop .loop .i) (at-loop .loop .inv .1) (at-loop .loop .inv .2) (at-loop-test .loop-test .taken) (λ e. c .if1 .taken (at-byte .byte .ensures .0 ∙ e))
 
 add-i : tie.Need-add-i Inv-loop μ-loop
 add-i c = search needs
@@ -69,7 +69,7 @@ loop-again c =
     let at = start .args .at in
     let i = at-loop .loop .i in
     let in-s : at + i < length s = at-byte .byte .ensures .1 (omega (arith, c .if1 .left, at-shared-slice-known3 .shared-slice-known3 .given i)) in
-    (omega arith, omega arith, λ _. word-more w s at i (at-loop .loop .inv .2) (at-loop-test .loop-test .taken) in-s (sym (at-byte .byte .ensures .0) ∙ c .if1 .left))
+    (omega arith, omega arith, λ _. word-more w s at i (at-loop .loop .inv .1) (at-loop .loop .inv .2) (at-loop-test .loop-test .taken) in-s (sym (at-byte .byte .ensures .0) ∙ c .if1 .left))
 
 add-result-2 : tie.Need-add-result-2 Inv-loop μ-loop
 add-result-2 c = search needs
@@ -81,7 +81,7 @@ returns-2 c =
     let s = start .args .s .now in
     let w = start .args .w .now in
     let at = start .args .at in
-    word-whole w s at (at-loop .loop .i) (at-loop .loop .inv .2) (omega arith) (omega arith)
+    word-whole w s at (at-loop .loop .i) (at-loop .loop .inv .1) (at-loop .loop .inv .2) (omega arith) (omega arith)
 
 pub match-word-spec : {M : Type 1} → statement M
 match-word-spec =
