@@ -1,3 +1,4 @@
 pub mod CheckLaw
 pub mod AcceptedLaw
 pub mod ClaimsLaw
+pub mod TreeLaw
