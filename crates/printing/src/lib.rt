@@ -3,7 +3,7 @@ use node_lines::put_line;
 use text::put::put_number;
 use text::put::put_text;
 use trace::Refusal;
-use verdict::Verdict;
+use trace::Verdict;
 ghost use Prim.Native.Nat.{_+_, _*_, _≤_};
 ghost use lib.ListN.{length};
 ghost use Rattle.ltl.specs.Check.{ltlRules};
