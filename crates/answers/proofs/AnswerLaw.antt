@@ -10,6 +10,9 @@ use Rattle.trace.specs.Limits.{mostLetters}
 use Rattle.logic.specs.Trace.{size}
 use Rattle.trace.specs.declared.Refusal.{Refusal}
 use Rattle.trace.specs.Refusal.{refused}
+use Rattle.trace.specs.declared.Verdict.{Verdict}
+use Rattle.trace.specs.declared.Verdict.the-variants as Verdict
+use Rattle.trace.specs.Verdict.{Judges}
 use Rattle.table.specs.Node.{numbersOf}
 use Rattle.table.proofs.NodeLaw.{length-numbers}
 use Rattle.table.proofs.CheckLaw.{some-none}
@@ -26,10 +29,10 @@ use Rattle.translate.specs.declared.Translation.{Translation}
 use Rattle.translate.specs.declared.Translation.the-variants as Translation
 use Rattle.translate.proofs.DeliversLaw.{size-most}
 use Rattle.translate.proofs.EmittedLaw.{emitted-accepted}
-use Rattle.verdict.specs.Verdict.{Judges, PslJudges, LtlJudges}
-use Rattle.verdict.specs.declared.Verdict.{Verdict}
-use Rattle.verdict.specs.declared.Verdict.the-variants as Verdict
-use Rattle.verdict.proofs.JudgesLaw.{psl-fine, ltl-fine, ltl-empty}
+use Rattle.psl_verdict.specs.Verdict.{PslJudges}
+use Rattle.ltl_verdict.specs.Verdict.{LtlJudges}
+use Rattle.psl_verdict.proofs.JudgesLaw.{psl-fine}
+use Rattle.ltl_verdict.proofs.JudgesLaw.{ltl-fine, ltl-empty}
 use Rattle.formula_lines.specs.Spelling.{formulaLine}
 use Rattle.trace_lines.specs.Spelling.{Trace, lineOfTrace}
 use Rattle.psl.specs.Closing.{closingNodes}

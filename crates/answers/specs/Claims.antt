@@ -1,16 +1,25 @@
--- What holds of the answers to trace lines, each statement proved in `ClaimsLaw`.
+-- What holds of both verdicts together and of the answers to trace lines, each statement proved in `ClaimsLaw`.
 use mathlib.Core.Path.{_≡_}
+use mathlib.Core.Option.{none}
 use mathlib.Core.List.{List}
 use Prim.Native.Nat.{ℕ, _<_}
 use Rattle.logic.specs.Trace.{size}
 use Rattle.logic.specs.Formula.{Formula}
-use Rattle.verdict.specs.declared.Verdict.{Verdict}
+use Rattle.trace.specs.declared.Verdict.{Verdict}
+use Rattle.psl.specs.Table.{formulaOf}
+use Rattle.psl.specs.Check.{pslRefusal}
+use Rattle.translate.specs.Emitted.{emitted}
+use Rattle.psl_verdict.specs.Verdict.{PslJudges}
+use Rattle.ltl_verdict.specs.Verdict.{LtlJudges}
 use Rattle.trace_lines.specs.Spelling.{Trace}
 use Rattle.answers.specs.Answer.{Judged, LaterAnswer}
 use Rattle.answers.specs.declared.Later.{Later}
 
 pub record Claims : Type 0 where
-  -- The two verdicts agree on every trace that is not empty.
-  pub agree : (f : Formula) (t : Trace) (v w : Verdict) → Judged f t v w → 0 < size (t .lead) (t .loop) → v ≡ w
+  -- Tables: on a trace with letters the PSL verdict on an accepted table is the LTL verdict on its emitted table.
+  pub agree-tables : (t lead loop : List ℕ) (v w : Verdict) → pslRefusal t ≡ none → 0 < size lead loop
+      → PslJudges t lead loop v → LtlJudges (emitted (formulaOf t)) lead loop w → v ≡ w
+  -- Lines: the two verdicts that a trace line is answered by agree on every trace with letters.
+  pub agree-lines : (f : Formula) (t : Trace) (v w : Verdict) → Judged f t v w → 0 < size (t .lead) (t .loop) → v ≡ w
   -- A trace line has one answer.
   pub one-answer : (f : Formula) (line : List ℕ) (r q : Later) → LaterAnswer f line r → LaterAnswer f line q → r ≡ q

@@ -7,7 +7,7 @@ ghost use Rattle.answers.specs.Answer.{laterText};
 use printing::put_refused;
 use printing::put_trace;
 use trace::Refusal;
-use verdict::Verdict;
+use trace::Verdict;
 
 // The nodes of the PSL table and of the LTL table.
 pub enum First {

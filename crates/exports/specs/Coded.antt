@@ -6,8 +6,8 @@ use Rattle.table.specs.declared.Checked.{Checked}
 use Rattle.table.specs.declared.Checked.the-variants as Checked
 use Rattle.translate.specs.declared.Translation.{Translation}
 use Rattle.translate.specs.declared.Translation.the-variants as Translation
-use Rattle.verdict.specs.declared.Verdict.{Verdict}
-use Rattle.verdict.specs.declared.Verdict.the-variants as Verdict
+use Rattle.trace.specs.declared.Verdict.{Verdict}
+use Rattle.trace.specs.declared.Verdict.the-variants as Verdict
 use Rattle.formula_lines.specs.declared.FormulaLine.{FormulaLine}
 use Rattle.formula_lines.specs.declared.FormulaLine.the-variants as FormulaLine
 use Rattle.trace_lines.specs.declared.TraceLine.{TraceLine}

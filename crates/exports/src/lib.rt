@@ -10,8 +10,9 @@ ghost use Rattle.psl.specs.Check.{pslRefusal};
 ghost use Rattle.ltl.specs.Check.{ltlRefusal};
 ghost use Rattle.translate.specs.declared.Translation.{Translation};
 ghost use Rattle.translate.specs.Answer.{Delivers};
-ghost use Rattle.verdict.specs.declared.Verdict.{Verdict};
-ghost use Rattle.verdict.specs.Verdict.{PslJudges, LtlJudges};
+ghost use Rattle.trace.specs.declared.Verdict.{Verdict};
+ghost use Rattle.psl_verdict.specs.Verdict.{PslJudges};
+ghost use Rattle.ltl_verdict.specs.Verdict.{LtlJudges};
 ghost use Rattle.table.specs.Node.{node};
 ghost use Rattle.formula_lines.specs.declared.FormulaLine.{FormulaLine};
 ghost use Rattle.trace_lines.specs.declared.TraceLine.{TraceLine};
@@ -27,9 +28,9 @@ use table::Checked;
 use table::NodeNo;
 use trace::Found;
 use trace::Moment;
+use trace::Verdict;
 use trace_lines::TraceLine;
 use translate::Translation;
-use verdict::Verdict;
 
 fn found_code(a: Found) -> u64
     ensures { λ r. ⌜ r ≡ foundCode a ⌝ }
@@ -123,14 +124,14 @@ pub extern "C" fn brancadol_check_ltl(table: &[u16]) -> u64
 pub extern "C" fn brancadol_psl_verdict(table: &[u16], lead: &[Letter], cycle: &[Letter]) -> u64
     ensures { λ r. ⌜ ((v : Verdict) × PslJudges (now (table .entry)) (now (lead .entry)) (now (cycle .entry)) v × (r ≡ verdictCode v)) ⌝ }
 {
-    verdict_code(verdict::psl_verdict(table, lead, cycle))
+    verdict_code(psl_verdict::psl_verdict(table, lead, cycle))
 }
 
 #[no_mangle]
 pub extern "C" fn brancadol_ltl_verdict(table: &[u16], lead: &[Letter], cycle: &[Letter]) -> u64
     ensures { λ r. ⌜ ((v : Verdict) × LtlJudges (now (table .entry)) (now (lead .entry)) (now (cycle .entry)) v × (r ≡ verdictCode v)) ⌝ }
 {
-    verdict_code(verdict::ltl_verdict(table, lead, cycle))
+    verdict_code(ltl_verdict::ltl_verdict(table, lead, cycle))
 }
 
 fn translation_code(a: Translation) -> u64

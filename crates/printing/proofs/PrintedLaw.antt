@@ -8,8 +8,8 @@ use lib.ListN.{length, getD, length-append}
 use Rattle.trace.specs.declared.Refusal.{Refusal}
 use Rattle.table.specs.Node.{count, kindAt, leftAt, rightAt, nodeAt}
 use Rattle.ltl.specs.Check.{ltlRules}
-use Rattle.verdict.specs.declared.Verdict.{Verdict}
-use Rattle.verdict.specs.declared.Verdict.the-variants as Verdict
+use Rattle.trace.specs.declared.Verdict.{Verdict}
+use Rattle.trace.specs.declared.Verdict.the-variants as Verdict
 use Rattle.text.specs.Text.{text}
 use Rattle.text.specs.Spelling.{digits}
 use Rattle.node_lines.specs.Spelling.{nodeLine}

@@ -3,8 +3,8 @@ use mathlib.Core.List.{List, [], _∷_, _++_}
 use Prim.Native.Nat.{ℕ, zero, suc}
 use Rattle.trace.specs.declared.Refusal.{Refusal}
 use Rattle.table.specs.Node.{count, nodeAt}
-use Rattle.verdict.specs.declared.Verdict.{Verdict}
-use Rattle.verdict.specs.declared.Verdict.the-variants as Verdict
+use Rattle.trace.specs.declared.Verdict.{Verdict}
+use Rattle.trace.specs.declared.Verdict.the-variants as Verdict
 use Rattle.text.specs.Text.{text}
 use Rattle.text.specs.Spelling.{digits, brackets}
 use Rattle.node_lines.specs.Spelling.{nodeLine}

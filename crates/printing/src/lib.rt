@@ -4,7 +4,7 @@ use table::NodeNo;
 use text::put::put_number;
 use text::put::put_text;
 use trace::Refusal;
-use verdict::Verdict;
+use trace::Verdict;
 ghost use Prim.Native.Nat.{_+_, _≤_};
 ghost use Rattle.text.specs.Inner.Writer.{Wrote};
 ghost use Rattle.printing.specs.Printed.{refusedText, verdictText, traceText};

@@ -7,7 +7,7 @@ use Prim.Native.Nat.{ℕ}
 use lib.ListN.{take}
 use Rattle.logic.specs.Trace.{size}
 use Rattle.logic.specs.Formula.{Formula}
-use Rattle.verdict.specs.declared.Verdict.{Verdict}
+use Rattle.trace.specs.declared.Verdict.{Verdict}
 use Rattle.text.specs.Text.{text}
 use Rattle.trace_lines.specs.Spelling.{Trace}
 use Rattle.printing.specs.Printed.{verdictText}

@@ -87,8 +87,8 @@ fn later_line(line: &[u8], psl: &[u16], ltl: &[u16]) -> Later
     match trace_lines::read_trace(line, &mut lead, &mut cycle) {
         TraceLine::Refused(x) => Later::Refused(x),
         TraceLine::Letters { lead: a, cycle: b } => Later::Verdicts(
-            verdict::judge_psl(psl, &lead[..a], &cycle[..b]),
-            verdict::judge_ltl(ltl, &lead[..a], &cycle[..b]),
+            psl_verdict::judge_psl(psl, &lead[..a], &cycle[..b]),
+            ltl_verdict::judge_ltl(ltl, &lead[..a], &cycle[..b]),
         ),
     }
 }

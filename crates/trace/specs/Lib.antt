@@ -1,4 +1,5 @@
 pub mod Limits
 pub mod Refusal
 pub mod Answer
+pub mod Verdict
 pub mod Claims

@@ -1,6 +1,7 @@
-// Traces: the letter of a moment, and the rest of the list that a moment falls in.
+// Traces: the letter of a moment, and the rest of the list that a moment falls in; what a verdict on a trace answers.
 use logic::Letter;
 ghost use mathlib.Core.Path.{_≡_};
+ghost use mathlib.Core.Bool.{cond};
 ghost use Rattle.trace.specs.Answer.{LetterIs, RestIs};
 
 // The most letters, in both lists together, that a verdict takes.
@@ -15,6 +16,19 @@ pub struct Refusal(pub u8);
 pub enum Found {
     Letter(Letter),
     Refused(Refusal),
+}
+
+pub enum Verdict {
+    Yes,
+    No,
+    Refused(Refusal),
+}
+
+// Yes or no.
+pub fn decided(b: bool) -> Verdict
+    ensures { λ v. ⌜ v ≡ cond b Verdict.Yes Verdict.No ⌝ }
+{
+    if b { Verdict::Yes } else { Verdict::No }
 }
 
 // The letter of a moment. In the code the loop list is called `cycle`, since `loop` is a keyword.

@@ -1,8 +1,8 @@
 // Both verdicts on the sentences with known verdicts, c1 to c12, the LTL one on the emitted table; then the borders. One line a case.
 use logic::Letter;
 use report::say;
+use trace::Verdict;
 use translate::Translation;
-use verdict::Verdict;
 
 // 1 yes, 0 no, or 100 and the refusal.
 fn code(v: Verdict) -> u64 {
@@ -22,7 +22,7 @@ fn judge_translated(t: &[u16], out: &mut [u16], lead: &[Letter], cycle: &[Letter
             if end <= out.len() {
                 say(
                     b"  translated",
-                    code(verdict::ltl_verdict(&out[..end], lead, cycle)),
+                    code(ltl_verdict::ltl_verdict(&out[..end], lead, cycle)),
                 );
             }
         }
@@ -30,7 +30,7 @@ fn judge_translated(t: &[u16], out: &mut [u16], lead: &[Letter], cycle: &[Letter
 }
 
 fn judge(name: &[u8], t: &[u16], lead: &[Letter], cycle: &[Letter]) {
-    say(name, code(verdict::psl_verdict(t, lead, cycle)));
+    say(name, code(psl_verdict::psl_verdict(t, lead, cycle)));
     let mut out = [0u16; 300];
     judge_translated(t, &mut out, lead, cycle);
 }
@@ -116,16 +116,19 @@ fn borders() {
     let one = [0u16, 0, 0];
     say(
         b"ltl, 65 letters",
-        code(verdict::ltl_verdict(&one, &[], &[1; 65])),
+        code(ltl_verdict::ltl_verdict(&one, &[], &[1; 65])),
     );
     say(
         b"ltl, no letter",
-        code(verdict::ltl_verdict(&one, &[], &[])),
+        code(ltl_verdict::ltl_verdict(&one, &[], &[])),
     );
-    say(b"ltl, no node", code(verdict::ltl_verdict(&[], &[], &[])));
+    say(
+        b"ltl, no node",
+        code(ltl_verdict::ltl_verdict(&[], &[], &[])),
+    );
     say(
         b"ltl, kind 7",
-        code(verdict::ltl_verdict(&[7u16, 0, 0], &[1], &[])),
+        code(ltl_verdict::ltl_verdict(&[7u16, 0, 0], &[1], &[])),
     );
 }
 

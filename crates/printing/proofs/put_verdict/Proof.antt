@@ -1,7 +1,7 @@
 -- Each verdict has its word.
 use mathlib.Core.Path.{sym, subst}
 use native.Mathlib.Omega.{arith}
-use Rattle.verdict.specs.declared.Verdict.{Verdict}
+use Rattle.trace.specs.declared.Verdict.{Verdict}
 use Rattle.text.specs.Inner.Writer.{Wrote}
 use Rattle.text.proofs.WriterLaw.{wrote-end}
 use Rattle.printing.specs.Printed.{verdictText}

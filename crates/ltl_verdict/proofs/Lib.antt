@@ -1,0 +1,2 @@
+pub mod JudgesLaw
+pub mod ClaimsLaw
