@@ -19,7 +19,8 @@ use Rattle.printing.specs.Printed.{tableText}
 use Rattle.answers.specs.Answer.{LaterAnswer, laterText}
 use Rattle.answers.specs.Whole.{Prints, Runs}
 use Rattle.answers.specs.Inner.{keptBytes, FirstAnswer}
-use Rattle.run.specs.Inner.{PrintedSoFar, Going, GoingOrOver, firstText, Remembers, FirstDone, LaterDone, Keeps}
+use Rattle.line_one.specs.Inner.{firstText, Remembers, FirstDone}
+use Rattle.run.specs.Inner.{PrintedSoFar, Going, GoingOrOver, LaterDone, Keeps}
 use Rattle.answers.specs.declared.First.{First}
 use Rattle.answers.specs.declared.First.the-variants as First
 use Rattle.answers.proofs.CutLaw.{ended-end, open-end, ended-byte, open-byte, last-ends, only-line, no-last, some-ended, all-ended}

@@ -9,65 +9,34 @@ use borrow.Author.Tests.{ltb-true, ltb-false}
 use lib.Dec.{ltb}
 use lib.ListN.{length, take, drop, getD, length-set, take-append-drop}
 use lib.Seq.{take-suc, take-all}
-use Rattle.trace.specs.declared.Refusal.{Refusal}
 use Rattle.table.specs.Node.{_▸_}
-use Rattle.psl.specs.Check.{pslRules}
-use Rattle.ltl.specs.Check.{ltlRules}
-use Rattle.text.specs.Inner.Writer.{Wrote}
-use Rattle.printing.specs.Printed.{refusedText, tableText}
+use Rattle.logic.specs.Formula.{Formula}
+use Rattle.trace_lines.specs.TraceAnswer.{TraceAnswer}
+use Rattle.trace_lines.specs.declared.TraceLine.the-variants as TraceLine
 use Rattle.printing.specs.Limits.{mostLater, mostFirst}
 use Rattle.answers.specs.Whole.{Runs}
-use Rattle.answers.specs.Inner.{Accepted, FirstAnswer}
+use Rattle.answers.specs.Answer.{LaterAnswer}
+use Rattle.answers.specs.Inner.{TablesOf}
 use Rattle.state.specs.Inner.{mostBlock, mostGathered, mostLines, Within, Gathered, Ready, stopped, start, idle}
-use Rattle.run.specs.Inner.{Going, GoingOrOver, Remembers, FirstDone, LaterDone, LineDone, Keeps, Fed, Finished, Ends, Advanced, AdvancesOrStops, Turns, no-turn, one-turn}
-use Rattle.answers.specs.declared.First.{First}
-use Rattle.answers.specs.declared.First.the-variants as First
+use Rattle.line_one.specs.Inner.{FirstDone}
+use Rattle.line_one.proofs.FirstLaw.{first-stored}
+use Rattle.run.specs.Inner.{Going, GoingOrOver, BothJudged, LaterDone, LineDone, Keeps, Fed, Finished, Ends, Advanced, AdvancesOrStops, Turns, no-turn, one-turn}
+use Rattle.answers.specs.declared.Later.{Later}
+use Rattle.answers.specs.declared.Later.the-variants as Later
 use Rattle.state.specs.declared.State.{State}
 use Rattle.state.proofs.StateLaw.{within-as, never}
-use Rattle.answers.proofs.AnswerLaw.{tables-accepted}
+use Rattle.answers.proofs.AnswerLaw.{room, later-judged}
 use Rattle.run.proofs.ProgressLaw.{going-start, going-same, going-byte, first-ends, going-later, end-empty, end-open}
 
--- ── Answers ──
+-- ── A later line ──
 
-abbrev pub begun : ℕ → ℕ → ℕ → Bool → State
-begun n z g m = record { number = 2; filled = 0; «psl_nodes» = n; «ltl_nodes» = z; gathered = g; more = m; failed = false }
-
-module _ (line out out′ psl ltl : List ℕ) (a : First) (answers : FirstAnswer line a psl ltl) (g : ℕ) where
-  pub first-refused : (x : Refusal) → a ≡ First.Refused x → Wrote (refusedText 1 x) out out′ 0 g → g ≤ mostLater → FirstDone line out (begun 0 0 g false) psl ltl out′
-  first-refused x e w h =
-      record {
-        answer = First.Refused x;
-        answers = subst (λ (y : First). FirstAnswer line y psl ltl) e answers;
-        writes = w;
-        short = omega arith;
-        remembers = (refl, refl, refl);
-        number = refl;
-        filled = refl;
-        works = refl;
-      }
-
-  pub first-tables : (n z : ℕ) → a ≡ First.Tables n z → Wrote (tableText (take (3 * z) ltl)) out out′ 0 g → g ≤ mostFirst → FirstDone line out (begun n z g true) psl ltl out′
-  first-tables n z e w h =
-      record {
-        answer = First.Tables n z;
-        answers = subst (λ (y : First). FirstAnswer line y psl ltl) e answers;
-        writes = w;
-        short = h;
-        remembers = (refl, refl, refl);
-        number = refl;
-        filled = refl;
-        works = refl;
-      }
-
-pub first-few : (line psl ltl : List ℕ) (a : First) (n z : ℕ) → FirstAnswer line a psl ltl → a ≡ First.Tables n z → (n ≤ pslRules .most) × (z ≤ ltlRules .most)
-first-few line psl ltl a n z h e = let (_, _, _, p, q) = subst (λ (y : First). FirstAnswer line y psl ltl) e h in (p, q)
+-- Both verdicts on the trace that was read.
+pub later-both : (line l m : List ℕ) (a b : ℕ) → TraceAnswer line room room (TraceLine.Letters a b) l m → {psl ltl : List ℕ} (r : Later)
+    → BothJudged psl ltl (take a l) (take b m) r → (f : Formula) → TablesOf f psl ltl → LaterAnswer f line r
+later-both line l m a b t (Later.Verdicts v w) (p, q) = later-judged line l m a b t p q
+later-both line l m a b t (Later.Refused x) j = absurd j
 
 -- ── A line's end ──
-
-first-stored : (line psl ltl : List ℕ) (a : First) → FirstAnswer line a psl ltl → (r : State) → Remembers a r
-    → (r .«psl_nodes» ≤ pslRules .most) × (r .«ltl_nodes» ≤ ltlRules .most) × (r .more ≡ true → Accepted (take (3 * r .«psl_nodes») psl) (take (3 * r .«ltl_nodes») ltl))
-first-stored line psl ltl (First.Refused x) a r (m, n, z) = (omega arith, omega arith, λ h. let z : _≡_ {A = ℕ} 0 1 = cc in absurd (omega arith))
-first-stored line psl ltl (First.Tables i j) (f, _, t, p, q) r (m, n, z) = (omega arith, omega arith, λ _. rw (n, z) (tables-accepted t))
 
 -- The state after a later line.
 abbrev pub onward : State → ℕ → State

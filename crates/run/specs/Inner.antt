@@ -10,16 +10,16 @@ use Rattle.translate.specs.Emitted.{emitted}
 use Rattle.formula_lines.specs.Spelling.{formulaLine}
 use Rattle.text.specs.Reading.{Takes}
 use Rattle.formula_lines.specs.FormulaAnswer.{formulaLimits}
+use Rattle.verdict.specs.Verdict.{PslJudges, LtlJudges}
 use Rattle.text.specs.Inner.Writer.{Wrote}
-use Rattle.printing.specs.Printed.{refusedText, tableText}
+use Rattle.printing.specs.Printed.{tableText}
 use Rattle.answers.specs.Answer.{LaterAnswer, laterText}
 use Rattle.printing.specs.Limits.{mostFirst, mostLater}
 use Rattle.answers.specs.Input.{endedLines, openLine}
 use Rattle.answers.specs.Whole.{PrintsTraces, Runs}
-use Rattle.answers.specs.Inner.{keptBytes, TablesOf, FirstAnswer}
-use Rattle.answers.specs.declared.First.{First}
-use Rattle.answers.specs.declared.First.the-variants as First
+use Rattle.answers.specs.Inner.{keptBytes, TablesOf}
 use Rattle.answers.specs.declared.Later.{Later}
+use Rattle.answers.specs.declared.Later.the-variants as Later
 use Rattle.state.specs.Inner.{Within, Gathered, Ready, stopped, start}
 use Rattle.state.specs.declared.State.{State}
 
@@ -45,24 +45,10 @@ pub record GoingOrOver (read out : List ℕ) (s : State) (line psl ltl : List �
 
 -- ── What the functions of the stream do ──
 
--- Line 1: its answer, the answer's text from the start of a list on, and the state r after it.
-abbrev pub firstText : First → List ℕ → List ℕ
-firstText (First.Tables n s) ltl = tableText (take (3 * s) ltl)
-firstText (First.Refused x) ltl = refusedText 1 x
-
-abbrev pub Remembers : First → State → Type 0
-Remembers (First.Tables n s) r = (r .more ≡ true) × (r .«psl_nodes» ≡ n) × (r .«ltl_nodes» ≡ s)
-Remembers (First.Refused x) r = (r .more ≡ false) × (r .«psl_nodes» ≡ 0) × (r .«ltl_nodes» ≡ 0)
-
-pub record FirstDone (line out : List ℕ) (r : State) (psl′ ltl′ out′ : List ℕ) : Type 0 where
-  pub answer : First
-  pub answers : FirstAnswer line answer psl′ ltl′
-  pub writes : Wrote (firstText answer ltl′) out out′ 0 (r .gathered)
-  pub short : r .gathered ≤ mostFirst
-  pub remembers : Remembers answer r
-  pub number : r .number ≡ 2
-  pub filled : r .filled ≡ 0
-  pub works : r .failed ≡ false
+-- Both verdicts on a trace, by the PSL and by the LTL table.
+abbrev pub BothJudged : List ℕ → List ℕ → List ℕ → List ℕ → Later → Type 0
+BothJudged psl ltl lead cycle (Later.Verdicts v w) = PslJudges psl lead cycle v × LtlJudges ltl lead cycle w
+BothJudged psl ltl lead cycle (Later.Refused x) = ⊥
 
 -- A later line of a number: its answer, and the answer's text from place `at` up to `next`.
 pub record LaterDone (line psl ltl out : List ℕ) (number at : ℕ) (out′ : List ℕ) (next : ℕ) : Type 0 where

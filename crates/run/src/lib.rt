@@ -1,48 +1,35 @@
 // A run as a stream of bytes: lines are cut off, answered, and the answers gathered.
-use answers::First;
 use answers::Later;
 use answers::put_later;
-use formula_lines::FormulaLine;
+use line_one::answer_first;
 use logic::Letter;
-use printing::put_refused;
-use printing::put_table;
 use state::State;
 use state::ready;
 use state::stop;
 use trace::MOST_LETTERS;
 use trace_lines::TraceLine;
-use translate::Translation;
 ghost use mathlib.Core.Path.{_≡_};
 ghost use mathlib.Core.Bool.{true};
-ghost use Prim.Native.Nat.{_+_, _*_, _<_, _≤_};
+ghost use Prim.Native.Nat.{_+_, _<_, _≤_};
 ghost use lib.ListN.{length};
 ghost use Rattle.logic.specs.Formula.{Formula};
-ghost use Rattle.psl.specs.Check.{pslRules};
-ghost use Rattle.ltl.specs.Check.{ltlRules};
 ghost use Rattle.answers.specs.Answer.{LaterAnswer};
-ghost use Rattle.answers.specs.Inner.{TablesOf, Accepted, FirstAnswer};
-ghost use Rattle.printing.specs.Limits.{mostFirst};
+ghost use Rattle.answers.specs.Inner.{TablesOf, Accepted};
 ghost use Rattle.state.specs.Inner.{mostBlock, mostGathered, mostLines, Within, Gathered};
-ghost use Rattle.run.specs.Inner.{FirstDone, LaterDone, LineDone, Keeps, Fed, Finished, AdvancesOrStops};
+ghost use Rattle.run.specs.Inner.{BothJudged, LaterDone, LineDone, Keeps, Fed, Finished, AdvancesOrStops};
 
-// Line 1: its PSL table into the one list, the translation into the other. Each has room for the largest, so neither 23 nor 10 is due.
-fn first_line(line: &[u8], psl: &mut [u16], ltl: &mut [u16]) -> First
-    requires { ⌜ (length (now psl) ≡ 3 * pslRules .most) × (length (now ltl) ≡ 3 * ltlRules .most) ⌝ }
-    ensures { λ r. ⌜ FirstAnswer (now (line .entry)) r (now (psl .exit)) (now (ltl .exit)) ⌝ }
+// Both verdicts on a trace, by the tables of line 1, which were checked with it.
+fn judge_both(psl: &[u16], ltl: &[u16], lead: &[Letter], cycle: &[Letter]) -> Later
+    requires { ⌜ Accepted (now psl) (now ltl) ⌝ }
+    ensures { λ r. ⌜ BothJudged (now (psl .entry)) (now (ltl .entry)) (now (lead .entry)) (now (cycle .entry)) r ⌝ }
 {
-    match formula_lines::read_formula(line, psl) {
-        FormulaLine::Refused(x) => First::Refused(x),
-        FormulaLine::Nodes(p) => {
-            let end = 3 * p;
-            match translate::translate(&psl[..end], ltl) {
-                Translation::Refused(x) => First::Refused(x),
-                Translation::Nodes(q) => First::Tables { psl: p, ltl: q },
-            }
-        }
-    }
+    Later::Verdicts(
+        verdict::judge_psl(psl, lead, cycle),
+        verdict::judge_ltl(ltl, lead, cycle),
+    )
 }
 
-// A later line: both verdicts on its trace, by the tables of line 1, which were checked with it.
+// A later line: both verdicts on its trace.
 fn later_line(line: &[u8], psl: &[u16], ltl: &[u16]) -> Later
     requires { ⌜ Accepted (now psl) (now ltl) ⌝ }
     ensures { λ r. ⌜ ((f : Formula) → TablesOf f (now (psl .entry)) (now (ltl .entry)) → LaterAnswer f (now (line .entry)) r) ⌝ }
@@ -51,40 +38,7 @@ fn later_line(line: &[u8], psl: &[u16], ltl: &[u16]) -> Later
     let mut cycle: [Letter; MOST_LETTERS] = [0; MOST_LETTERS];
     match trace_lines::read_trace(line, &mut lead, &mut cycle) {
         TraceLine::Refused(x) => Later::Refused(x),
-        TraceLine::Letters { lead: a, cycle: b } => Later::Verdicts(
-            verdict::judge_psl(psl, &lead[..a], &cycle[..b]),
-            verdict::judge_ltl(ltl, &lead[..a], &cycle[..b]),
-        ),
-    }
-}
-
-// Line 1: its answer's text is the first that is gathered.
-fn answer_first(line: &[u8], psl: &mut [u16], ltl: &mut [u16], out: &mut [u8]) -> State
-    requires { ⌜ (length (now psl) ≡ 3 * pslRules .most) × (length (now ltl) ≡ 3 * ltlRules .most) × (mostFirst < length (now out)) ⌝ }
-    ensures { λ r. ⌜ FirstDone (now (line .entry)) (now (out .entry)) r (now (psl .exit)) (now (ltl .exit)) (now (out .exit)) ⌝ }
-{
-    match first_line(line, psl, ltl) {
-        First::Refused(x) => State {
-            number: 2,
-            filled: 0,
-            psl_nodes: 0,
-            ltl_nodes: 0,
-            gathered: put_refused(out, 0, 1, x),
-            more: false,
-            failed: false,
-        },
-        First::Tables { psl: p, ltl: q } => {
-            let end = 3 * q;
-            State {
-                number: 2,
-                filled: 0,
-                psl_nodes: p,
-                ltl_nodes: q,
-                gathered: put_table(out, 0, &ltl[..end]),
-                more: true,
-                failed: false,
-            }
-        }
+        TraceLine::Letters { lead: a, cycle: b } => judge_both(psl, ltl, &lead[..a], &cycle[..b]),
     }
 }
 
@@ -110,8 +64,9 @@ fn end_line(line: &[u8], psl: &mut [u16], ltl: &mut [u16], out: &mut [u8], s: St
     ensures { λ r. ⌜ LineDone (now (line .entry)) (now (psl .entry)) (now (ltl .entry)) (now (out .entry)) s r (now (psl .exit)) (now (ltl .exit)) (now (out .exit)) ⌝ }
 {
     let filled = s.filled;
+    let kept = &line[..filled];
     if s.number <= 1 {
-        return answer_first(&line[..filled], psl, ltl, out);
+        return answer_first(kept, psl, ltl, out);
     }
     let p = 3 * s.psl_nodes;
     let q = 3 * s.ltl_nodes;
@@ -120,14 +75,7 @@ fn end_line(line: &[u8], psl: &mut [u16], ltl: &mut [u16], out: &mut [u8], s: St
         filled: 0,
         psl_nodes: s.psl_nodes,
         ltl_nodes: s.ltl_nodes,
-        gathered: answer_later(
-            &line[..filled],
-            &psl[..p],
-            &ltl[..q],
-            out,
-            s.number,
-            s.gathered,
-        ),
+        gathered: answer_later(kept, &psl[..p], &ltl[..q], out, s.number, s.gathered),
         more: true,
         failed: false,
     }

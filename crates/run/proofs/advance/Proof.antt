@@ -7,13 +7,6 @@ use borrow.Author.Needs.{needs}
 use Rattle.run.proofs.advance.Statement.{statement}
 use Rattle.run.proofs.advance.Tie as tie
 
--- Where the tests have passed, the block can be taken.
-abbrev start : tie.Else1 → tie.Start
-start e = e .before .before .before .before .before .before .before .before .before .before .before
-
-can : (e : tie.Else1) → let x = start e .args in Ready (x .block .now) (x .s) (x .line .now) (x .psl .now) (x .ltl .now) (x .out .now)
-can e = passed (e .before .ready .result) (e .before .ready .ensures) (not-false _ (e .if1 .left))
-
 ready-requires : tie.Need-ready-requires
 ready-requires c κs = search needs
 
@@ -34,6 +27,13 @@ same-length-4 c = search needs
 
 returns : tie.Need-returns
 returns c = turned-away (failed (c .before .before .ready .result) (c .before .before .ready .ensures) (not-true _ (c .before .if1 .taken))) (c .stop .ensures)
+
+-- Where the tests have passed, the block can be taken.
+abbrev start : tie.Else1 → tie.Start
+start e = e .before .before .before .before .before .before .before .before .before .before .before
+
+can : (e : tie.Else1) → let x = start e .args in Ready (x .block .now) (x .s) (x .line .now) (x .psl .now) (x .ltl .now) (x .out .now)
+can e = passed (e .before .ready .result) (e .before .ready .ensures) (not-false _ (e .if1 .left))
 
 finish-requires : tie.Need-finish-requires
 finish-requires c κs = finish-ready (can (c .before .before .before .before .before))
