@@ -4,18 +4,19 @@ use mathlib.Core.Option.{Option, none, some}
 use mathlib.Core.List.{List}
 use Prim.Native.Nat.{ℕ, suc, _+_, _*_, _-_, _≤_}
 use native.Mathlib.Omega.{arith}
-use borrow.Author.Tests.{le-leb}
-use lib.ListN.{length, take, replicate, length-replicate}
+use borrow.Author.Tests.{le-leb, leb-true}
+use lib.Dec.{leb}
+use lib.ListN.{length, take, replicate, length-replicate, length-take}
 use Rattle.trace.specs.Limits.{mostLetters}
 use Rattle.logic.specs.Trace.{size}
 use Rattle.trace.specs.declared.Refusal.{Refusal}
-use Rattle.trace.specs.Refusal.{refused}
+use Rattle.trace.specs.Refusal.{refused, unless}
 use Rattle.trace.specs.declared.Verdict.{Verdict}
 use Rattle.trace.specs.declared.Verdict.the-variants as Verdict
 use Rattle.trace.specs.Verdict.{Judges}
 use Rattle.table.specs.Node.{numbersOf}
 use Rattle.table.proofs.NodeLaw.{length-numbers}
-use Rattle.table.proofs.CheckLaw.{some-none}
+use Rattle.table.proofs.CheckLaw.{some-none, or-none, unless-none}
 use Rattle.logic.specs.Formula.{Formula}
 use Rattle.logic.specs.Meaning.{HoldsOn}
 use Rattle.psl.specs.Table.{formulaOf}
@@ -37,7 +38,7 @@ use Rattle.formula_lines.specs.Spelling.{formulaLine}
 use Rattle.trace_lines.specs.Spelling.{Trace, lineOfTrace}
 use Rattle.psl.specs.Closing.{closingNodes}
 use Rattle.text.specs.Reading.{Takes, Refuses}
-use Rattle.formula_lines.specs.FormulaAnswer.{formulaLimits, FormulaAnswer}
+use Rattle.formula_lines.specs.FormulaAnswer.{formulaLimits, formulaRefusal, FormulaAnswer}
 use Rattle.trace_lines.specs.TraceAnswer.{traceLimits, TraceAnswer}
 use Rattle.formula_lines.specs.declared.FormulaLine.the-variants as FormulaLine
 use Rattle.trace_lines.specs.declared.TraceLine.the-variants as TraceLine
@@ -64,54 +65,65 @@ tables-accepted {f} {psl} {ltl} a =
 
 -- ── Line 1 ──
 
-module _ (line l m : List ℕ) (room : length l ≡ 3 * pslRules .most) where
-  pub first-refused : {x : Refusal} → FormulaAnswer line l (FormulaLine.Refused x) m → Refuses formulaLine formulaLimits line x
-  first-refused (a, _) = refuses-by (λ f. formula-room f (length l) (omega arith)) a
+-- A list that took a translation had room for it.
+pub translation-few : {t l m : List ℕ} {s : ℕ} → Delivers t l (Translation.Nodes s) m → (s ≤ ltlRules .most) × (3 * s ≤ length m)
+translation-few {m = m} {s} d = let out = d .succeeds s refl in (omega (arith, out .bounded), omega (arith, out .sized, length-take (3 * s) m))
 
+module _ (line l m : List ℕ) where
   module _ (n : ℕ) (a : FormulaAnswer line l (FormulaLine.Nodes n) m) where
     abbrev f : Formula
     f = a .0
 
-    pub first-taken : Takes formulaLine formulaLimits line f
-    first-taken = takes-by (λ g. formula-room g (length l) (omega arith)) (a .1)
-
+    -- A list that took a table had room for it.
     pub first-few : (n ≤ pslRules .most) × (3 * n ≤ length m)
+    unfolding formulaRefusal
     first-few =
-        let few = limits-few f (first-taken .within) in
-        let counted = length-numbers (closingNodes f) in
-        (omega (arith, a .2), omega (arith, a .2, ap length (a .3) ∙ front-length (numbersOf (closingNodes f)) l (omega arith)))
+        let nodes = closingNodes f in
+        let (small, room) = or-none (formulaLimits f) (unless (leb (3 * length nodes) (length l)) (refused 23) none) (a .1 .within) in
+        let few = limits-few f small in
+        let fits = leb-true (3 * length nodes) (length l) (unless-none (leb (3 * length nodes) (length l)) (refused 23) none room .0) in
+        let counted = length-numbers nodes in
+        (omega (arith, a .2), omega (arith, a .2, ap length (a .3) ∙ front-length (numbersOf nodes) l (omega arith)))
 
-    pub first-table : take (3 * n) m ≡ numbersOf (closingNodes f)
+    first-table : take (3 * n) m ≡ numbersOf (closingNodes f)
     first-table = ap (take (3 * n)) (a .3) ∙ front-take (numbersOf (closingNodes f)) l (3 * n) (omega (arith, a .2, length-numbers (closingNodes f)))
 
     stands : formulaOf (take (3 * n) m) ≡ f
     stands = ap formulaOf first-table ∙ closing-formula f
 
-    accepted : pslRefusal (take (3 * n) m) ≡ none
-    accepted = ap pslRefusal first-table ∙ limits-accepted f (first-taken .within)
+  module _ (room : length l ≡ 3 * pslRules .most) where
+    pub first-refused : {x : Refusal} → FormulaAnswer line l (FormulaLine.Refused x) m → Refuses formulaLine formulaLimits line x
+    first-refused (a, _) = refuses-by (λ g. formula-room g (length l) (omega arith)) a
 
-    -- There is room for every translation.
-    fits : (k : List ℕ) → length k ≡ 3 * ltlRules .most → translateRefusal (take (3 * n) m) (length k) ≡ none
-    unfolding translateRefusal
-    fits k h =
-        let most = size-most (take (3 * n) m) accepted in
-        rw (accepted, le-leb (3 * emittedSize (formulaOf (take (3 * n) m))) (length k) (omega arith))
+    module _ (n : ℕ) (a : FormulaAnswer line l (FormulaLine.Nodes n) m) where
+      first-taken : Takes formulaLine formulaLimits line (f n a)
+      first-taken = takes-by (λ g. formula-room g (length l) (omega arith)) (a .1)
 
-    pub first-translated : {k k′ : List ℕ} {x : Refusal} → length k ≡ 3 * ltlRules .most → Delivers (take (3 * n) m) k (Translation.Refused x) k′ → ⊥
-    first-translated {k} {x = x} h d =
-        let e : Translation.Refused x ≡ Translation.Nodes (emittedSize (formulaOf (take (3 * n) m))) =
-        d .answers ∙ ap (λ (o : Option Refusal). answer o (emittedSize (formulaOf (take (3 * n) m)))) (fits k h) in
-        let z : _≡_ {A = ℕ} 0 1 = cc in omega arith
+      accepted : pslRefusal (take (3 * n) m) ≡ none
+      accepted = ap pslRefusal (first-table n a) ∙ limits-accepted (f n a) (first-taken .within)
 
-    pub first-tables : {k k′ : List ℕ} {s : ℕ} → Delivers (take (3 * n) m) k (Translation.Nodes s) k′ → FirstAnswer line (First.Tables n s) m k′
-    first-tables {s = s} d =
-        let out = d .succeeds s refl in (
-          f,
-          first-taken,
-          record { limits = first-taken .within; read = first-table; translated = out .is ∙ ap emitted stands },
-          omega (arith, first-few .0),
-          omega (arith, out .bounded),
-        )
+      -- There is room for every translation.
+      fits : (k : List ℕ) → length k ≡ 3 * ltlRules .most → translateRefusal (take (3 * n) m) (length k) ≡ none
+      unfolding translateRefusal
+      fits k h =
+          let most = size-most (take (3 * n) m) accepted in
+          rw (accepted, le-leb (3 * emittedSize (formulaOf (take (3 * n) m))) (length k) (omega arith))
+
+      pub first-translated : {k k′ : List ℕ} {x : Refusal} → length k ≡ 3 * ltlRules .most → Delivers (take (3 * n) m) k (Translation.Refused x) k′ → ⊥
+      first-translated {k} {x = x} h d =
+          let e : Translation.Refused x ≡ Translation.Nodes (emittedSize (formulaOf (take (3 * n) m))) =
+          d .answers ∙ ap (λ (o : Option Refusal). answer o (emittedSize (formulaOf (take (3 * n) m)))) (fits k h) in
+          let z : _≡_ {A = ℕ} 0 1 = cc in omega arith
+
+      pub first-tables : {k k′ : List ℕ} {s : ℕ} → Delivers (take (3 * n) m) k (Translation.Nodes s) k′ → FirstAnswer line (First.Tables n s) m k′
+      first-tables {s = s} d =
+          let out = d .succeeds s refl in (
+            f n a,
+            first-taken,
+            record { limits = first-taken .within; read = first-table n a; translated = out .is ∙ ap emitted (stands n a) },
+            first-few n a .0,
+            translation-few d .0,
+          )
 
 -- ── Later lines ──
 

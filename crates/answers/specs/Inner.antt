@@ -1,20 +1,25 @@
--- The tables that line 1 leaves for the later lines: what the functions promise of them.
+-- What the functions promise of the tables that line 1 leaves for the later lines, and the bytes of a line that its answer rests on.
 use mathlib.Core.Path.{_≡_}
 use mathlib.Core.Option.{none}
 use mathlib.Core.List.{List}
-use Prim.Native.Nat.{ℕ, _*_, _≤_}
+use Prim.Native.Nat.{ℕ, _+_, _*_, _≤_}
 use lib.ListN.{take}
 use Rattle.table.specs.Node.{numbersOf}
 use Rattle.logic.specs.Formula.{Formula}
 use Rattle.psl.specs.Check.{pslRules, pslRefusal}
 use Rattle.ltl.specs.Check.{ltlRules, ltlRefusal}
 use Rattle.translate.specs.Emitted.{emitted}
+use Rattle.text.specs.Limits.{mostBytes}
 use Rattle.text.specs.Reading.{Takes, Refuses}
 use Rattle.formula_lines.specs.Spelling.{formulaLine}
 use Rattle.psl.specs.Closing.{closingNodes}
 use Rattle.formula_lines.specs.FormulaAnswer.{formulaLimits}
 use Rattle.answers.specs.declared.First.{First}
 use Rattle.answers.specs.declared.First.the-variants as First
+
+-- The bytes of a line that are kept: one more than it may have, so that a longer one is seen to be.
+abbrev pub keptBytes : ℕ
+keptBytes = mostBytes + 1
 
 -- The PSL and the LTL table of a formula that is within the limits.
 pub record TablesOf (f : Formula) (psl ltl : List ℕ) : Type 0 where

@@ -1,5 +1,4 @@
 -- Laws that the proofs share.
-pub mod CutLaw
 pub mod ProgressLaw
 pub mod StreamLaw
 pub mod ClaimsLaw

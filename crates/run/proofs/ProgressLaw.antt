@@ -1,6 +1,6 @@
 -- What each step of a run keeps of the relation between the input taken, the output and the state.
 use mathlib.Core.Path.{_≡_, refl, ap, sym, subst, _∙_}
-use mathlib.Core.Logic.{inl, inr}
+use mathlib.Core.Logic.{inl}
 use mathlib.Core.Bool.{Bool, true, false}
 use mathlib.Core.List.{List, [], _∷_, _++_, append-assoc, append-nil}
 use Prim.Native.Nat.{ℕ, suc, _+_, _*_, _-_, _<_, _≤_}
@@ -9,51 +9,35 @@ use native.Mathlib.Numerals.{add-one}
 use borrow.Author.Tests.{ltb-true, ltb-false, ne-eqb}
 use lib.Dec.{ltb}
 use lib.ListN.{length, take, length-append, length-take}
-use lib.Seq.{sets-eq, take-at, take-all, take-suc-set, take-append-le, length-take-le}
+use lib.Seq.{take-all, take-suc-set, take-append-le, length-take-le}
 use Rattle.table.specs.Node.{_▸_}
 use Rattle.logic.specs.Formula.{Formula}
 use Rattle.translate.specs.Emitted.{emitted}
 use Rattle.text.specs.Limits.{mostBytes}
-use Rattle.text.specs.Inner.Writer.{Wrote}
-use Rattle.text.proofs.ReadingLaw.{takes-cut, refuses-cut}
-use Rattle.text.proofs.WriterLaw.{wrote-room, wrote-fits}
-use Rattle.run.specs.Input.{endedAfter, openAfter, endedLines, openLine, inputLines}
+use Rattle.answers.specs.Input.{endedAfter, openAfter, endedLines, openLine, inputLines}
 use Rattle.printing.specs.Printed.{tableText}
 use Rattle.answers.specs.Answer.{LaterAnswer, laterText}
-use Rattle.run.specs.Whole.{PrintsTraces, Prints, Runs}
-use Rattle.answers.specs.Inner.{FirstAnswer}
-use Rattle.run.specs.Inner.{keptBytes, Told, Going, At, firstText, Remembers, FirstDone, LaterDone, Keeps}
+use Rattle.answers.specs.Whole.{Prints, Runs}
+use Rattle.answers.specs.Inner.{keptBytes, FirstAnswer}
+use Rattle.line_one.specs.Inner.{firstText, Remembers, FirstDone}
+use Rattle.run.specs.Inner.{PrintedSoFar, Going, GoingOrOver, LaterDone, Keeps}
 use Rattle.answers.specs.declared.First.{First}
 use Rattle.answers.specs.declared.First.the-variants as First
-use Rattle.answers.specs.declared.Later.{Later}
-use Rattle.answers.specs.declared.Later.the-variants as Later
-use Rattle.run.specs.declared.State.{State}
-use Rattle.run.proofs.CutLaw.{ended-end, open-end, ended-byte, open-byte, first-line-stays, last-ends, only-line, no-last}
-
--- ── The gathered bytes ──
-
--- What was written stands behind what was gathered.
-pub gathers : {w l m : List ℕ} {at next : ℕ} → Wrote w l m at next → next < length l → take next m ≡ take at l ++ w
-gathers {w} {l} {m} {at} {next} a h =
-    let fits = wrote-room a h in
-    let ends = wrote-fits a fits in
-    let counted : length (take at l ++ w) ≡ next = length-append (take at l) w ∙ omega (arith, ends, length-take-le at l (omega arith)) in
-    ap (take next) (a .is ∙ sets-eq w l at fits) ∙ take-at (take at l ++ w) _ next counted
-
-printed : {w l m : List ℕ} {at next : ℕ} (done : List ℕ) → Wrote w l m at next → next < length l → done ++ take next m ≡ (done ++ take at l) ++ w
-printed {w} {l} {at = at} done a h = ap (λ (x : List ℕ). done ++ x) (gathers a h) ∙ sym (append-assoc done (take at l) w)
+use Rattle.answers.proofs.CutLaw.{ended-end, open-end, ended-byte, open-byte, last-ends, only-line, no-last, some-ended, all-ended}
+use Rattle.answers.proofs.WholeLaw.{printed, first-kept, later-kept, refused-runs, traces-more}
+use Rattle.state.specs.declared.State.{State}
 
 -- ── Nothing is taken yet ──
 
 pub going-start : {line psl ltl : List ℕ} (s : State) → s .number ≡ 1 → s .filled ≡ 0 → Going [] [] s line psl ltl
 unfolding endedAfter openAfter
-going-start {line} s n f = record { counted = n; kept = ap (λ (k : ℕ). take k line) f; told = refl }
+going-start {line} s n f = record { counted = n; kept = ap (λ (k : ℕ). take k line) f; printed = refl }
 
 -- ── What the relation speaks of ──
 
-told-same : (ls : List (List ℕ)) (out psl ltl : List ℕ) (s r : State) → r .«psl_nodes» ≡ s .«psl_nodes» → r .«ltl_nodes» ≡ s .«ltl_nodes» → Told ls out s psl ltl → Told ls out r psl ltl
-told-same [] out psl ltl s r n z t = t
-told-same (l ∷ ls) out psl ltl s r n z (f, rest, a, b, c, d) = (f, rest, a, rw (n, z) b, c, d)
+printed-same : (ls : List (List ℕ)) (out psl ltl : List ℕ) (s r : State) → r .«psl_nodes» ≡ s .«psl_nodes» → r .«ltl_nodes» ≡ s .«ltl_nodes» → PrintedSoFar ls out s psl ltl → PrintedSoFar ls out r psl ltl
+printed-same [] out psl ltl s r n z t = t
+printed-same (l ∷ ls) out psl ltl s r n z (f, rest, a, b, c, d) = (f, rest, a, rw (n, z) b, c, d)
 
 module _ {read out line psl ltl : List ℕ} (s r : State) (g : Going read out s line psl ltl) (num : r .number ≡ s .number) (nodes : r .«psl_nodes» ≡ s .«psl_nodes»)
     (size : r .«ltl_nodes» ≡ s .«ltl_nodes») where
@@ -62,7 +46,7 @@ module _ {read out line psl ltl : List ℕ} (s r : State) (g : Going read out s 
       record {
         counted = num ∙ g .counted;
         kept = ap (λ (k : ℕ). take k line) filled ∙ g .kept;
-        told = told-same (endedLines read) out psl ltl s r nodes size (g .told);
+        printed = printed-same (endedLines read) out psl ltl s r nodes size (g .printed);
       }
 
   -- ── A byte of a line ──
@@ -75,7 +59,7 @@ module _ {read out line psl ltl : List ℕ} (s r : State) (g : Going read out s 
       record {
         counted = num ∙ g .counted ∙ ap (λ (ls : List (List ℕ)). 1 + length ls) (sym ended);
         kept = kept-byte (openLine read) (s .filled) (r .filled) room h (g .kept) keeps ∙ ap (take keptBytes) (sym (open-byte b other read []));
-        told = subst (λ (ls : List (List ℕ)). Told ls out r psl ltl) (sym ended) (told-same (endedLines read) out psl ltl s r nodes size (g .told));
+        printed = subst (λ (ls : List (List ℕ)). PrintedSoFar ls out r psl ltl) (sym ended) (printed-same (endedLines read) out psl ltl s r nodes size (g .printed));
       }
     where
       -- The kept bytes of a line that has a byte more.
@@ -108,33 +92,23 @@ no-lines (l ∷ ls) h = absurd (omega arith)
 
 -- What is printed is the text of the answer to line 1, the only line that ended.
 module _ (read o out psl ltl : List ℕ) (r : State) (ended : endedLines read ≡ o ∷ []) where
-  first-goes : (a : First) → FirstAnswer o a psl ltl → Remembers a r → out ≡ firstText a ltl → r .more ≡ true → Told (endedLines read) out r psl ltl
+  first-goes : (a : First) → FirstAnswer o a psl ltl → Remembers a r → out ≡ firstText a ltl → r .more ≡ true → PrintedSoFar (endedLines read) out r psl ltl
   first-goes (First.Refused x) a (h, _, _) e m = let z : _≡_ {A = ℕ} 0 1 = cc in absurd (omega arith)
   first-goes (First.Tables n z) (f, t, b, _, _) (_, p, q) e m =
-      subst (λ (ls : List (List ℕ)). Told ls out r psl ltl) (sym ended)
+      subst (λ (ls : List (List ℕ)). PrintedSoFar ls out r psl ltl) (sym ended)
       (f, [], t, rw (p, q) b, e ∙ ap tableText (b .translated) ∙ sym (append-nil (tableText (emitted f))), refl)
 
   first-over : (a : First) → FirstAnswer o a psl ltl → Remembers a r → out ≡ firstText a ltl → r .more ≡ false → (rest : List ℕ) → Runs (read ++ rest) out
   first-over (First.Tables n z) a (h, _, _) e m rest = let z : _≡_ {A = ℕ} 0 1 = cc in absurd (omega arith)
-  first-over (First.Refused x) a h e m rest =
-      let (ls, d) = first-line-stays read rest o [] ended in
-      subst (λ (ms : List (List ℕ)). Prints ms out) (sym d) (inr (x, a, e))
-
-first-kept : (o psl ltl : List ℕ) (a : First) → FirstAnswer (take keptBytes o) a psl ltl → FirstAnswer o a psl ltl
-first-kept o psl ltl (First.Tables n s) (f, t, b, i, j) = (f, takes-cut o keptBytes (omega arith) t, b, i, j)
-first-kept o psl ltl (First.Refused x) a = refuses-cut o keptBytes (omega arith) a
-
-later-kept : (f : Formula) (o : List ℕ) (a : Later) → LaterAnswer f (take keptBytes o) a → LaterAnswer f o a
-later-kept f o (Later.Verdicts v w) (t, a, j) = (t, takes-cut o keptBytes (omega arith) a, j)
-later-kept f o (Later.Refused x) a = refuses-cut o keptBytes (omega arith) a
+  first-over (First.Refused x) a h e m rest = refused-runs read o out x ended a e rest
 
 module _ (read done line psl ltl out : List ℕ) (s r : State) (g : Going read (done ++ take (s .gathered) out) s line psl ltl) where
-  pub at-first : {psl′ ltl′ out′ : List ℕ} → s .number ≤ 1 → s .gathered ≡ 0 → FirstDone (take (s .filled) line) out r psl′ ltl′ out′ → r .gathered < length out
-      → At (read ▸ 10) (done ++ take (r .gathered) out′) r line psl′ ltl′
-  at-first {psl′} {ltl′} {out′} h none d fits =
+  pub first-ends : {psl′ ltl′ out′ : List ℕ} → s .number ≤ 1 → s .gathered ≡ 0 → FirstDone (take (s .filled) line) out r psl′ ltl′ out′ → r .gathered < length out
+      → GoingOrOver (read ▸ 10) (done ++ take (r .gathered) out′) r line psl′ ltl′
+  first-ends {psl′} {ltl′} {out′} h none d fits =
       let start = no-lines (endedLines read) (omega (arith, g .counted)) in
       let ended = ended-end read [] ∙ ap (λ (ls : List (List ℕ)). ls ▸ openLine read) start in
-      let nothing = subst (λ (ls : List (List ℕ)). Told ls (done ++ take (s .gathered) out) s psl ltl) start (g .told) in
+      let nothing = subst (λ (ls : List (List ℕ)). PrintedSoFar ls (done ++ take (s .gathered) out) s psl ltl) start (g .printed) in
       let empty : done ++ take 0 out ≡ [] = ap (λ (k : ℕ). done ++ take k out) (sym none) ∙ nothing in
       let text = printed done (d .writes) fits ∙ ap (λ (x : List ℕ). x ++ firstText (d .answer) ltl′) empty in
       let whole = first-kept (openLine read) psl′ ltl′ (d .answer) (subst (λ (x : List ℕ). FirstAnswer x (d .answer) psl′ ltl′) (g .kept) (d .answers)) in
@@ -142,7 +116,7 @@ module _ (read done line psl ltl out : List ℕ) (s r : State) (g : Going read (
         going = λ m. record {
           counted = d .number ∙ ap (λ (ls : List (List ℕ)). 1 + length ls) (sym ended);
           kept = ap (λ (k : ℕ). take k line) (d .filled) ∙ ap (take keptBytes) (sym (open-end read []));
-          told = first-goes (read ▸ 10) (openLine read) (done ++ take (r .gathered) out′) psl′ ltl′ r ended (d .answer) whole (d .remembers) text m;
+          printed = first-goes (read ▸ 10) (openLine read) (done ++ take (r .gathered) out′) psl′ ltl′ r ended (d .answer) whole (d .remembers) text m;
         };
         over = first-over (read ▸ 10) (openLine read) (done ++ take (r .gathered) out′) psl′ ltl′ r ended (d .answer) whole (d .remembers) text;
       }
@@ -158,26 +132,13 @@ module _ (read done line psl ltl out : List ℕ) (s r : State) (g : Going read (
       record {
         counted = num ∙ omega (arith, g .counted, length-append (endedLines read) (openLine read ∷ [])) ∙ ap (λ (ls : List (List ℕ)). 1 + length ls) (sym ended);
         kept = ap (λ (k : ℕ). take k line) filled ∙ ap (take keptBytes) (sym (open-end read []));
-        told = subst (λ (ls : List (List ℕ)). Told ls (done ++ take (r .gathered) out′) r psl ltl) (sym ended)
-            (subst (λ (x : List ℕ). Told (endedLines read ▸ openLine read) x r psl ltl) (sym (printed done (d .writes) fits))
-            (go (endedLines read) refl (g .told)));
+        printed = subst (λ (ls : List (List ℕ)). PrintedSoFar ls (done ++ take (r .gathered) out′) r psl ltl) (sym ended)
+            (subst (λ (x : List ℕ). PrintedSoFar (endedLines read ▸ openLine read) x r psl ltl) (sym (printed done (d .writes) fits))
+            (go (endedLines read) refl (g .printed)));
       }
     where
-      -- A line more.
-      more : (f : Formula) (i k : ℕ) (ls : List (List ℕ)) (rest : List ℕ) → k ≡ i + length ls → LaterAnswer f (openLine read) (d .answer)
-          → PrintsTraces f i ls rest → PrintsTraces f i (ls ▸ openLine read) (rest ++ laterText k (d .answer))
-      more f i k [] rest e a p =
-          (d .answer, [], a, ap (λ (x : List ℕ). x ++ laterText k (d .answer)) p ∙ ap (λ (j : ℕ). laterText j (d .answer)) (omega arith) ∙ sym (append-nil (laterText i (d .answer))), refl)
-      more f i k (l ∷ ls) rest e a (q, tail, b, c, p) = (
-        q,
-        tail ++ laterText k (d .answer),
-        b,
-        ap (λ (x : List ℕ). x ++ laterText k (d .answer)) c ∙ append-assoc (laterText i q) tail (laterText k (d .answer)),
-        more f (suc i) k ls tail (omega arith) a p,
-      )
-
-      go : (ls : List (List ℕ)) → endedLines read ≡ ls → Told ls (done ++ take (s .gathered) out) s psl ltl
-          → Told (ls ▸ openLine read) ((done ++ take (s .gathered) out) ++ laterText (s .number - 1) (d .answer)) r psl ltl
+      go : (ls : List (List ℕ)) → endedLines read ≡ ls → PrintedSoFar ls (done ++ take (s .gathered) out) s psl ltl
+          → PrintedSoFar (ls ▸ openLine read) ((done ++ take (s .gathered) out) ++ laterText (s .number - 1) (d .answer)) r psl ltl
       go [] e t = absurd (omega (arith, g .counted, ap length e))
       go (l ∷ ls) e (f, rest, a, b, c, p) =
           let answered = later-kept f (openLine read) (d .answer) (subst (λ (x : List ℕ). LaterAnswer f x (d .answer)) (g .kept) (d .answers f b)) in (
@@ -186,19 +147,19 @@ module _ (read done line psl ltl out : List ℕ) (s r : State) (g : Going read (
             a,
             rw (n, z) b,
             ap (λ (x : List ℕ). x ++ laterText (s .number - 1) (d .answer)) c ∙ append-assoc (tableText (emitted f)) rest (laterText (s .number - 1) (d .answer)),
-            more f 1 (s .number - 1) ls rest (omega (arith, g .counted, ap length e)) answered p,
+            traces-more f (openLine read) (d .answer) answered (s .number - 1) 1 ls rest (omega (arith, g .counted, ap length e)) p,
           )
 
 -- ── The input's end ──
 
-prints : (out psl ltl : List ℕ) (s : State) (ls : List (List ℕ)) → 0 < length ls → Told ls out s psl ltl → Prints ls out
+prints : (out psl ltl : List ℕ) (s : State) (ls : List (List ℕ)) → 0 < length ls → PrintedSoFar ls out s psl ltl → Prints ls out
 prints out psl ltl s [] h t = absurd (omega arith)
 prints out psl ltl s (l ∷ ls) h (f, rest, a, _, c, p) = inl (f, rest, a, c, p)
 
 module _ {read out line psl ltl : List ℕ} (s : State) (g : Going read out s line psl ltl) where
   -- No line is open: the lines that have ended are all.
   pub end-empty : s .filled ≡ 0 → 1 < s .number → Runs read out
-  end-empty f h = go (endedLines read) refl (g .told)
+  end-empty f h = go (endedLines read) refl (g .printed)
     where
       empty : openLine read ≡ []
       empty = nil (openLine read) (sym (g .kept) ∙ ap (λ (k : ℕ). take k line) f)
@@ -207,12 +168,12 @@ module _ {read out line psl ltl : List ℕ} (s : State) (g : Going read out s li
           nil [] e = refl
           nil (b ∷ o) e = let z : suc (length (take mostBytes o)) ≡ 0 = ap length e in absurd (omega arith)
 
-      go : (ls : List (List ℕ)) → endedLines read ≡ ls → Told ls out s psl ltl → Runs read out
+      go : (ls : List (List ℕ)) → endedLines read ≡ ls → PrintedSoFar ls out s psl ltl → Runs read out
       go [] e t = absurd (omega (arith, g .counted, ap length e))
       go (l ∷ ls) e t = subst (λ (ms : List (List ℕ)). Prints ms out) (sym (no-last read l ls e empty)) (prints out psl ltl s (l ∷ ls) (omega arith) t)
 
   -- The open line is answered as if byte 10 ended it.
-  pub end-open : {psl′ ltl′ out′ : List ℕ} (r : State) → s .filled ≤ length line → (s .filled ≡ 0 → s .number ≤ 1) → At (read ▸ 10) out′ r line psl′ ltl′ → Runs read out′
+  pub end-open : {psl′ ltl′ out′ : List ℕ} (r : State) → s .filled ≤ length line → (s .filled ≡ 0 → s .number ≤ 1) → GoingOrOver (read ▸ 10) out′ r line psl′ ltl′ → Runs read out′
   end-open {psl′} {ltl′} {out′} r room h a = go (r .more) refl
     where
       same : inputLines read ≡ endedLines (read ▸ 10)
@@ -225,19 +186,8 @@ module _ {read out line psl ltl : List ℕ} (s : State) (g : Going read out s li
               (λ o. let short : s .filled ≡ 0 = omega (arith, length-take-le (s .filled) line room, ap length (g .kept), ap (λ (x : List ℕ). length (take keptBytes x)) o) in
               omega (arith, h short, g .counted, ap length e))
 
-      some : 0 < length (endedLines (read ▸ 10))
-      some = omega (arith, ap length (ended-end read []), length-append (endedLines read) (openLine read ∷ []))
-
-      -- With byte 10 behind it the input has the same lines.
-      closed : inputLines (read ▸ 10) ≡ endedLines (read ▸ 10)
-      closed = by (endedLines (read ▸ 10)) refl
-        where
-          by : (ls : List (List ℕ)) → endedLines (read ▸ 10) ≡ ls → inputLines (read ▸ 10) ≡ endedLines (read ▸ 10)
-          by [] e = absurd (omega (arith, some, ap length e))
-          by (l ∷ ls) e = no-last (read ▸ 10) l ls e (open-end read []) ∙ sym e
-
       go : (m : Bool) → r .more ≡ m → Runs read out′
-      go true e = subst (λ (ls : List (List ℕ)). Prints ls out′) (sym same) (prints out′ psl′ ltl′ r (endedLines (read ▸ 10)) some (a .going e .told))
+      go true e = subst (λ (ls : List (List ℕ)). Prints ls out′) (sym same) (prints out′ psl′ ltl′ r (endedLines (read ▸ 10)) (some-ended read) (a .going e .printed))
       go false e =
-          subst (λ (ls : List (List ℕ)). Prints ls out′) (closed ∙ sym same)
+          subst (λ (ls : List (List ℕ)). Prints ls out′) (all-ended read ∙ sym same)
           (subst (λ (x : List ℕ). Runs x out′) (append-nil (read ▸ 10)) (a .over e []))

@@ -1,7 +1,6 @@
 -- What each way out of the functions of the stream gives.
 use mathlib.Core.Path.{_≡_, refl, ap, sym, subst, _∙_}
 use mathlib.Core.Bool.{Bool, true, false}
-use mathlib.Core.Option.{Option, none}
 use mathlib.Core.List.{List, [], _∷_, _++_, append-assoc, append-nil}
 use Prim.Native.Nat.{ℕ, _+_, _*_, _-_, _<_, _≤_}
 use native.Mathlib.Omega.{arith}
@@ -10,92 +9,34 @@ use borrow.Author.Tests.{ltb-true, ltb-false}
 use lib.Dec.{ltb}
 use lib.ListN.{length, take, drop, getD, length-set, take-append-drop}
 use lib.Seq.{take-suc, take-all}
-use Rattle.trace.specs.declared.Refusal.{Refusal}
-use Rattle.table.specs.Answer.{checked}
 use Rattle.table.specs.Node.{_▸_}
-use Rattle.table.specs.declared.Checked.{Checked}
-use Rattle.table.specs.declared.Checked.the-variants as Checked
-use Rattle.table.proofs.CheckLaw.{some-none, was-refused}
-use Rattle.psl.specs.Check.{pslRules}
-use Rattle.ltl.specs.Check.{ltlRules}
-use Rattle.text.specs.Inner.Writer.{Wrote}
-use Rattle.printing.specs.Printed.{refusedText, tableText}
+use Rattle.logic.specs.Formula.{Formula}
+use Rattle.trace_lines.specs.TraceAnswer.{TraceAnswer}
+use Rattle.trace_lines.specs.declared.TraceLine.the-variants as TraceLine
 use Rattle.printing.specs.Limits.{mostLater, mostFirst}
-use Rattle.run.specs.Whole.{Runs}
-use Rattle.answers.specs.Inner.{Accepted, FirstAnswer}
-use Rattle.run.specs.Inner.{Going, At, mostBlock, mostGathered, mostLines, Within, Ready, ListsFit, CountsFit, Tested, Gathered, Remembers, FirstDone, LaterDone, LineDone, Keeps, Fed, Finished, Ends, Advanced, stopped, AdvancesOrStops, start, Turns, no-turn, one-turn, idle}
-use Rattle.answers.specs.declared.First.{First}
-use Rattle.answers.specs.declared.First.the-variants as First
-use Rattle.run.specs.declared.State.{State}
-use Rattle.answers.proofs.AnswerLaw.{tables-accepted}
-use Rattle.run.proofs.ProgressLaw.{going-start, going-same, going-byte, at-first, going-later, end-empty, end-open}
+use Rattle.answers.specs.Whole.{Runs}
+use Rattle.answers.specs.Answer.{LaterAnswer}
+use Rattle.answers.specs.Inner.{TablesOf}
+use Rattle.state.specs.Inner.{mostBlock, mostGathered, mostLines, Within, Gathered, Ready, stopped, start, idle}
+use Rattle.line_one.specs.Inner.{FirstDone}
+use Rattle.line_one.proofs.FirstLaw.{first-stored}
+use Rattle.run.specs.Inner.{Going, GoingOrOver, BothJudged, LaterDone, LineDone, Keeps, Fed, Finished, Ends, Advanced, AdvancesOrStops, Turns, no-turn, one-turn}
+use Rattle.answers.specs.declared.Later.{Later}
+use Rattle.answers.specs.declared.Later.the-variants as Later
+use Rattle.state.specs.declared.State.{State}
+use Rattle.state.proofs.StateLaw.{within-as, never}
+use Rattle.answers.proofs.AnswerLaw.{room, later-judged}
+use Rattle.run.proofs.ProgressLaw.{going-start, going-same, going-byte, first-ends, going-later, end-empty, end-open}
 
--- ── Bounds ──
+-- ── A later line ──
 
--- The same state, with other bytes gathered.
-pub within-as : {line psl ltl out : List ℕ} (s r : State) → Within s line psl ltl out → r .number ≡ s .number → r .filled ≡ s .filled → r .«psl_nodes» ≡ s .«psl_nodes»
-    → r .«ltl_nodes» ≡ s .«ltl_nodes» → (r .more ≡ true → (s .more ≡ true) × (r .failed ≡ false)) → Within r line psl ltl out
-within-as s r w number filled nodes size more =
-    record {
-      lineRoom = w .lineRoom;
-      pslRoom = w .pslRoom;
-      ltlRoom = w .ltlRoom;
-      outRoom = w .outRoom;
-      filled = omega (arith, w .filled);
-      pslNodes = omega (arith, w .pslNodes);
-      ltlNodes = omega (arith, w .ltlNodes);
-      numbered = omega (arith, w .numbered);
-      working = λ m. more m .1;
-      stored = λ h m. rw (nodes, size) (w .stored (omega (arith, number)) (more m .0));
-    }
-
-pub within-idle : {line psl ltl out : List ℕ} (s : State) → Within s line psl ltl out → Within (idle s) line psl ltl out
-within-idle s w = within-as s (idle s) w refl refl refl refl (λ m. (m, w .working m))
-
-none-yet : (s : State) → Gathered 0 (idle s)
-none-yet s = record { few = omega arith; first = λ _. refl }
-
--- ── Answers ──
-
-abbrev pub begun : ℕ → ℕ → ℕ → Bool → State
-begun n z g m = record { number = 2; filled = 0; «psl_nodes» = n; «ltl_nodes» = z; gathered = g; more = m; failed = false }
-
-module _ (line out out′ psl ltl : List ℕ) (a : First) (answers : FirstAnswer line a psl ltl) (g : ℕ) where
-  pub first-refused : (x : Refusal) → a ≡ First.Refused x → Wrote (refusedText 1 x) out out′ 0 g → g ≤ mostLater → FirstDone line out (begun 0 0 g false) psl ltl out′
-  first-refused x e w h =
-      record {
-        answer = First.Refused x;
-        answers = subst (λ (y : First). FirstAnswer line y psl ltl) e answers;
-        writes = w;
-        short = omega arith;
-        remembers = (refl, refl, refl);
-        number = refl;
-        filled = refl;
-        works = refl;
-      }
-
-  pub first-tables : (n z : ℕ) → a ≡ First.Tables n z → Wrote (tableText (take (3 * z) ltl)) out out′ 0 g → g ≤ mostFirst → FirstDone line out (begun n z g true) psl ltl out′
-  first-tables n z e w h =
-      record {
-        answer = First.Tables n z;
-        answers = subst (λ (y : First). FirstAnswer line y psl ltl) e answers;
-        writes = w;
-        short = h;
-        remembers = (refl, refl, refl);
-        number = refl;
-        filled = refl;
-        works = refl;
-      }
-
-pub first-few : (line psl ltl : List ℕ) (a : First) (n z : ℕ) → FirstAnswer line a psl ltl → a ≡ First.Tables n z → (n ≤ pslRules .most) × (z ≤ ltlRules .most)
-first-few line psl ltl a n z h e = let (_, _, _, p, q) = subst (λ (y : First). FirstAnswer line y psl ltl) e h in (p, q)
+-- Both verdicts on the trace that was read.
+pub later-both : (line l m : List ℕ) (a b : ℕ) → TraceAnswer line room room (TraceLine.Letters a b) l m → {psl ltl : List ℕ} (r : Later)
+    → BothJudged psl ltl (take a l) (take b m) r → (f : Formula) → TablesOf f psl ltl → LaterAnswer f line r
+later-both line l m a b t (Later.Verdicts v w) (p, q) = later-judged line l m a b t p q
+later-both line l m a b t (Later.Refused x) j = absurd j
 
 -- ── A line's end ──
-
-first-stored : (line psl ltl : List ℕ) (a : First) → FirstAnswer line a psl ltl → (r : State) → Remembers a r
-    → (r .«psl_nodes» ≤ pslRules .most) × (r .«ltl_nodes» ≤ ltlRules .most) × (r .more ≡ true → Accepted (take (3 * r .«psl_nodes») psl) (take (3 * r .«ltl_nodes») ltl))
-first-stored line psl ltl (First.Refused x) a r (m, n, z) = (omega arith, omega arith, λ h. let z : _≡_ {A = ℕ} 0 1 = cc in absurd (omega arith))
-first-stored line psl ltl (First.Tables i j) (f, _, t, p, q) r (m, n, z) = (omega arith, omega arith, λ _. rw (n, z) (tables-accepted t))
 
 -- The state after a later line.
 abbrev pub onward : State → ℕ → State
@@ -121,7 +62,7 @@ module _ {line psl ltl out : List ℕ} (s : State) (w : Within s line psl ltl ou
         };
         number = omega (arith, d .number, w .numbered);
         short = λ k g. omega (arith, d .short);
-        tells = λ read done a. at-first read done line psl ltl out s r a h empty d (omega (arith, d .short, w .outRoom));
+        tells = λ read done a. first-ends read done line psl ltl out s r a h empty d (omega (arith, d .short, w .outRoom));
       }
 
   pub line-later : {out′ : List ℕ} (g : ℕ) → 1 < s .number → s .more ≡ true → length out′ ≡ length out
@@ -228,9 +169,9 @@ module _ {block line₀ psl₀ ltl₀ line psl ltl out : List ℕ} {s : State} (
       }
 
   module _ (ten : b ≡ 10) {psl′ ltl′ out′ : List ℕ} (r′ : State) (d : LineDone line psl ltl out r r′ psl′ ltl′ out′) where
-    at-line : (read done : List ℕ) → Going read done s line₀ psl₀ ltl₀ → At (read ++ take (i + 1) block) (done ++ take (r′ .gathered) out′) r′ line psl′ ltl′
-    at-line read done a =
-        subst (λ (x : List ℕ). At x (done ++ take (r′ .gathered) out′) r′ line psl′ ltl′) (one-more read block i 10 h (sym ten ∙ e))
+    line-ends : (read done : List ℕ) → Going read done s line₀ psl₀ ltl₀ → GoingOrOver (read ++ take (i + 1) block) (done ++ take (r′ .gathered) out′) r′ line psl′ ltl′
+    line-ends read done a =
+        subst (λ (x : List ℕ). GoingOrOver x (done ++ take (r′ .gathered) out′) r′ line psl′ ltl′) (one-more read block i 10 h (sym ten ∙ e))
         (d .tells (read ++ take i block) done (f .tells read done a))
 
     short : r′ .gathered ≤ mostFirst + mostLater * (i + 1)
@@ -244,7 +185,7 @@ module _ {block line₀ psl₀ ltl₀ line psl ltl out : List ℕ} {s : State} (
           upto = omega arith;
           gathered = record { few = short; first = λ k. absurd (omega (arith, d .number, f .within .numbered)) };
           number = omega (arith, d .number, f .number);
-          tells = λ read done a. at-line read done a .going m;
+          tells = λ read done a. line-ends read done a .going m;
         }
 
     -- Line 1 was refused: what follows in the block does not matter.
@@ -259,7 +200,7 @@ module _ {block line₀ psl₀ ltl₀ line psl ltl out : List ℕ} {s : State} (
                 let all : (read ++ take (i + 1) block) ++ (drop (i + 1) block ++ rest) ≡ (read ++ block) ++ rest =
                 sym (append-assoc (read ++ take (i + 1) block) (drop (i + 1) block) rest)
                 ∙ ap (λ (x : List ℕ). x ++ rest) (append-assoc read (take (i + 1) block) (drop (i + 1) block) ∙ ap (λ (x : List ℕ). read ++ x) (take-append-drop (i + 1) block)) in
-                subst (λ (x : List ℕ). Runs x (done ++ take (r′ .gathered) out′)) all (at-line read done a .over m (drop (i + 1) block ++ rest));
+                subst (λ (x : List ℕ). Runs x (done ++ take (r′ .gathered) out′)) all (line-ends read done a .over m (drop (i + 1) block ++ rest));
           };
         }
 
@@ -305,9 +246,6 @@ module _ {line psl ltl out : List ℕ} (s : State) (w : Within s line psl ltl ou
 abbrev pub ended : State → State
 ended s = record { number = s .number; filled = s .filled; «psl_nodes» = s .«psl_nodes»; «ltl_nodes» = s .«ltl_nodes»; gathered = s .gathered; more = false; failed = s .failed }
 
-pub never : {b : Bool} → b ≡ true → b ≡ false → ⊥
-never {b} p q = let z : _≡_ {A = ℕ} 0 1 = cc in omega arith
-
 nil : (xs : List ℕ) → length xs ≡ 0 → xs ≡ []
 nil [] e = refl
 nil (x ∷ xs) e = absurd (omega arith)
@@ -341,67 +279,9 @@ module _ {line psl ltl : List ℕ} (s : State) where
       go [] z read out f = absurd (z refl)
       go (x ∷ xs) z read out f = λ rest. subst (λ (y : List ℕ). Runs y out) (append-assoc read (x ∷ xs) rest) (f rest)
 
--- ── The tests before a block ──
-
-module _ {A : Type 0} (b : Bool) (t : Tested A b) where
-  pub passed : b ≡ true → A
-  passed e = subst (Tested A) e t
-
-  pub failed : b ≡ false → A → ⊥
-  failed e = subst (Tested A) e t
-
-pub not-accepted : {o : Option Refusal} {c : Checked} {x : Refusal} → c ≡ checked o → c ≡ Checked.Refused x → o ≡ none → ⊥
-not-accepted {o} {c} {x} e r a = some-none (sym (was-refused o c x e r) ∙ a)
+-- ── Taken or not ──
 
 module _ {block line psl ltl out : List ℕ} {s : State} where
-  pub ready : ListsFit (length block) (length line) (length psl) (length ltl) (length out) → CountsFit s
-      → (1 < s .number → Accepted (take (3 * s .«psl_nodes») psl) (take (3 * s .«ltl_nodes») ltl)) → Ready block s line psl ltl out
-  ready l k a =
-      record {
-        within = record {
-          lineRoom = l .lineRoom;
-          pslRoom = l .pslRoom;
-          ltlRoom = l .ltlRoom;
-          outRoom = l .outRoom;
-          filled = k .filled;
-          pslNodes = k .pslNodes;
-          ltlNodes = k .ltlNodes;
-          numbered = k .numbered;
-          working = λ _. k .works;
-          stored = λ h _. a h;
-        };
-        more = k .more;
-        short = l .short;
-        counted = k .counted;
-      }
-
-  pub ready-lists : Ready block s line psl ltl out → ListsFit (length block) (length line) (length psl) (length ltl) (length out)
-  ready-lists y =
-      let w = y .within in
-      record { short = y .short; lineRoom = w .lineRoom; pslRoom = w .pslRoom; ltlRoom = w .ltlRoom; outRoom = w .outRoom }
-
-  pub ready-counts : Ready block s line psl ltl out → CountsFit s
-  ready-counts y =
-      let w = y .within in
-      record {
-        filled = w .filled;
-        pslNodes = w .pslNodes;
-        ltlNodes = w .ltlNodes;
-        numbered = w .numbered;
-        counted = y .counted;
-        more = y .more;
-        works = w .working (y .more);
-      }
-
-  -- What the end of the input, and the bytes of a block, need.
-  pub finish-ready : Ready block s line psl ltl out
-      → Within (idle s) line psl ltl out × Gathered 0 (idle s) × (s .more ≡ true) × (s .number < mostLines)
-  finish-ready y = (within-idle s (y .within), none-yet s, y .more, omega (arith, y .counted))
-
-  pub feed-ready : Ready block s line psl ltl out
-      → Within (idle s) line psl ltl out × Gathered 0 (idle s) × (s .more ≡ true) × (length block ≤ mostBlock) × (s .number + length block ≤ mostLines)
-  feed-ready y = (within-idle s (y .within), none-yet s, y .more, y .short, omega (arith, y .short, y .counted))
-
   -- A block that can be taken was.
   pub taken : {r : State} {line′ psl′ ltl′ out′ : List ℕ} → Ready block s line psl ltl out → Advanced block line psl ltl s r line′ psl′ ltl′ out′
       → AdvancesOrStops block line psl ltl out s r line′ psl′ ltl′ out′
@@ -410,11 +290,6 @@ module _ {block line psl ltl out : List ℕ} {s : State} where
   -- One that cannot was not.
   pub turned-away : {r : State} → (Ready block s line psl ltl out → ⊥) → r ≡ stopped s → AdvancesOrStops block line psl ltl out s r line psl ltl out
   turned-away not e = record { advances = λ y. absurd (not y); stops = λ _. (e, refl, refl, refl, refl); room = omega (arith, ap (λ (q : State). q .gathered) e) }
-
-pub tested-ready : (block line psl ltl out : List ℕ) (s : State) (b : Bool) → ListsFit (length block) (length line) (length psl) (length ltl) (length out) → CountsFit s
-    → 1 < s .number → Tested (Accepted (take (3 * s .«psl_nodes») psl) (take (3 * s .«ltl_nodes») ltl)) b → Tested (Ready block s line psl ltl out) b
-tested-ready block line psl ltl out s true l k h t = ready l k (λ _. t)
-tested-ready block line psl ltl out s false l k h t = λ y. t (y .within .stored h (y .more))
 
 -- ── Turns ──
 

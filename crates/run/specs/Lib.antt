@@ -1,5 +1,3 @@
--- What a run means: `Input` its lines, `Whole` a run from its input to its output, `Claims` what holds of every run.
-pub mod Input
-pub mod Whole
+-- How the code goes through a run: `Inner` what its functions promise, `Claims` what holds of every run.
 pub mod Inner
 pub mod Claims

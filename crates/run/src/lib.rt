@@ -1,83 +1,35 @@
 // A run as a stream of bytes: lines are cut off, answered, and the answers gathered.
-use answers::First;
 use answers::Later;
 use answers::put_later;
-use formula_lines::FormulaLine;
+use line_one::answer_first;
 use logic::Letter;
-use printing::put_refused;
-use printing::put_table;
-use table::Checked;
-use text::scan::MOST_BYTES;
+use state::State;
+use state::ready;
+use state::stop;
 use trace::MOST_LETTERS;
 use trace_lines::TraceLine;
-use translate::Translation;
 ghost use mathlib.Core.Path.{_≡_};
 ghost use mathlib.Core.Bool.{true};
-ghost use Prim.Native.Nat.{_+_, _*_, _<_, _≤_};
+ghost use Prim.Native.Nat.{_+_, _<_, _≤_};
 ghost use lib.ListN.{length};
 ghost use Rattle.logic.specs.Formula.{Formula};
-ghost use Rattle.psl.specs.Check.{pslRules};
-ghost use Rattle.ltl.specs.Check.{ltlRules};
 ghost use Rattle.answers.specs.Answer.{LaterAnswer};
-ghost use Rattle.answers.specs.Inner.{TablesOf, Accepted, FirstAnswer};
-ghost use Rattle.printing.specs.Limits.{mostFirst};
-ghost use Rattle.run.specs.Inner.{mostBlock, mostGathered, mostLines, Within, Gathered, Ready, ListsFit, CountsFit, Tested, FirstDone, LaterDone, LineDone, Keeps, Fed, Finished, stopped, AdvancesOrStops};
+ghost use Rattle.answers.specs.Inner.{TablesOf, Accepted};
+ghost use Rattle.state.specs.Inner.{mostBlock, mostGathered, mostLines, Within, Gathered};
+ghost use Rattle.run.specs.Inner.{BothJudged, LaterDone, LineDone, Keeps, Fed, Finished, AdvancesOrStops};
 
-// A line's bytes that are kept: one more than a line may have, so that a longer one is seen to be.
-pub const LINE_ROOM: usize = MOST_BYTES + 1;
-
-// Room for the numbers of the largest tables.
-pub const PSL_ROOM: usize = 3 * psl::MOST_NODES;
-
-pub const LTL_ROOM: usize = 3 * ltl::MOST_NODES;
-
-// The most bytes of a block of input.
-pub const BLOCK: usize = 4096;
-
-// The most bytes of the answer to line 1, and of that to a later one.
-const MOST_FIRST: usize = 107000;
-
-const MOST_LATER: usize = 60;
-
-// Room for what a block prints, an answer to line 1 and one for each byte. One answer more would fit, so that it is never filled up.
-pub const OUT_ROOM: usize = MOST_FIRST + MOST_LATER * BLOCK + MOST_LATER + 1;
-
-// Line numbers above this could overflow within a block.
-pub const LAST_LINE: u64 = u64::MAX - BLOCK as u64;
-
-// What a run is made of between two bytes.
-pub struct State {
-    // The number of the line, from 1, and how many of its bytes are kept.
-    pub number: u64,
-    pub filled: usize,
-    // The nodes of the PSL and of the LTL table.
-    pub psl_nodes: usize,
-    pub ltl_nodes: usize,
-    // The bytes gathered for output.
-    pub gathered: usize,
-    // Whether the run goes on, and whether it stopped on a failure: to read, to write, or to take a block.
-    pub more: bool,
-    pub failed: bool,
-}
-
-// Line 1: its PSL table into the one list, the translation into the other. Each has room for the largest, so neither 23 nor 10 is due.
-fn first_line(line: &[u8], psl: &mut [u16], ltl: &mut [u16]) -> First
-    requires { ⌜ (length (now psl) ≡ 3 * pslRules .most) × (length (now ltl) ≡ 3 * ltlRules .most) ⌝ }
-    ensures { λ r. ⌜ FirstAnswer (now (line .entry)) r (now (psl .exit)) (now (ltl .exit)) ⌝ }
+// Both verdicts on a trace, by the tables of line 1, which were checked with it.
+fn judge_both(psl: &[u16], ltl: &[u16], lead: &[Letter], cycle: &[Letter]) -> Later
+    requires { ⌜ Accepted (now psl) (now ltl) ⌝ }
+    ensures { λ r. ⌜ BothJudged (now (psl .entry)) (now (ltl .entry)) (now (lead .entry)) (now (cycle .entry)) r ⌝ }
 {
-    match formula_lines::read_formula(line, psl) {
-        FormulaLine::Refused(x) => First::Refused(x),
-        FormulaLine::Nodes(p) => {
-            let end = 3 * p;
-            match translate::translate(&psl[..end], ltl) {
-                Translation::Refused(x) => First::Refused(x),
-                Translation::Nodes(q) => First::Tables { psl: p, ltl: q },
-            }
-        }
-    }
+    Later::Verdicts(
+        psl_verdict::judge_psl(psl, lead, cycle),
+        ltl_verdict::judge_ltl(ltl, lead, cycle),
+    )
 }
 
-// A later line: both verdicts on its trace, by the tables of line 1, which were checked with it.
+// A later line: both verdicts on its trace.
 fn later_line(line: &[u8], psl: &[u16], ltl: &[u16]) -> Later
     requires { ⌜ Accepted (now psl) (now ltl) ⌝ }
     ensures { λ r. ⌜ ((f : Formula) → TablesOf f (now (psl .entry)) (now (ltl .entry)) → LaterAnswer f (now (line .entry)) r) ⌝ }
@@ -86,40 +38,7 @@ fn later_line(line: &[u8], psl: &[u16], ltl: &[u16]) -> Later
     let mut cycle: [Letter; MOST_LETTERS] = [0; MOST_LETTERS];
     match trace_lines::read_trace(line, &mut lead, &mut cycle) {
         TraceLine::Refused(x) => Later::Refused(x),
-        TraceLine::Letters { lead: a, cycle: b } => Later::Verdicts(
-            psl_verdict::judge_psl(psl, &lead[..a], &cycle[..b]),
-            ltl_verdict::judge_ltl(ltl, &lead[..a], &cycle[..b]),
-        ),
-    }
-}
-
-// Line 1: its answer's text is the first that is gathered.
-fn answer_first(line: &[u8], psl: &mut [u16], ltl: &mut [u16], out: &mut [u8]) -> State
-    requires { ⌜ (length (now psl) ≡ 3 * pslRules .most) × (length (now ltl) ≡ 3 * ltlRules .most) × (mostFirst < length (now out)) ⌝ }
-    ensures { λ r. ⌜ FirstDone (now (line .entry)) (now (out .entry)) r (now (psl .exit)) (now (ltl .exit)) (now (out .exit)) ⌝ }
-{
-    match first_line(line, psl, ltl) {
-        First::Refused(x) => State {
-            number: 2,
-            filled: 0,
-            psl_nodes: 0,
-            ltl_nodes: 0,
-            gathered: put_refused(out, 0, 1, x),
-            more: false,
-            failed: false,
-        },
-        First::Tables { psl: p, ltl: q } => {
-            let end = 3 * q;
-            State {
-                number: 2,
-                filled: 0,
-                psl_nodes: p,
-                ltl_nodes: q,
-                gathered: put_table(out, 0, &ltl[..end]),
-                more: true,
-                failed: false,
-            }
-        }
+        TraceLine::Letters { lead: a, cycle: b } => judge_both(psl, ltl, &lead[..a], &cycle[..b]),
     }
 }
 
@@ -145,8 +64,9 @@ fn end_line(line: &[u8], psl: &mut [u16], ltl: &mut [u16], out: &mut [u8], s: St
     ensures { λ r. ⌜ LineDone (now (line .entry)) (now (psl .entry)) (now (ltl .entry)) (now (out .entry)) s r (now (psl .exit)) (now (ltl .exit)) (now (out .exit)) ⌝ }
 {
     let filled = s.filled;
+    let kept = &line[..filled];
     if s.number <= 1 {
-        return answer_first(&line[..filled], psl, ltl, out);
+        return answer_first(kept, psl, ltl, out);
     }
     let p = 3 * s.psl_nodes;
     let q = 3 * s.ltl_nodes;
@@ -155,14 +75,7 @@ fn end_line(line: &[u8], psl: &mut [u16], ltl: &mut [u16], out: &mut [u8], s: St
         filled: 0,
         psl_nodes: s.psl_nodes,
         ltl_nodes: s.ltl_nodes,
-        gathered: answer_later(
-            &line[..filled],
-            &psl[..p],
-            &ltl[..q],
-            out,
-            s.number,
-            s.gathered,
-        ),
+        gathered: answer_later(kept, &psl[..p], &ltl[..q], out, s.number, s.gathered),
         more: true,
         failed: false,
     }
@@ -221,98 +134,6 @@ fn finish(line: &[u8], psl: &mut [u16], ltl: &mut [u16], out: &mut [u8], s: Stat
     end_line(line, psl, ltl, out, s)
 }
 
-// Whether both tables pass their checks.
-fn both_accepted(psl: &[u16], ltl: &[u16]) -> bool
-    ensures { λ r. ⌜ Tested (Accepted (now (psl .entry)) (now (ltl .entry))) r ⌝ }
-{
-    match psl::check_psl(psl) {
-        Checked::Refused(_) => false,
-        Checked::Accepted => match ltl::check_ltl(ltl) {
-            Checked::Refused(_) => false,
-            Checked::Accepted => true,
-        },
-    }
-}
-
-// Whether lists of these lengths have the room that a block needs.
-fn lists_fit(block: usize, line: usize, psl: usize, ltl: usize, out: usize) -> bool
-    ensures { λ r. ⌜ Tested (ListsFit block line psl ltl out) r ⌝ }
-{
-    if BLOCK < block {
-        return false;
-    }
-    if line != LINE_ROOM {
-        return false;
-    }
-    if psl != PSL_ROOM {
-        return false;
-    }
-    if ltl != LTL_ROOM {
-        return false;
-    }
-    if out != OUT_ROOM {
-        return false;
-    }
-    true
-}
-
-// Whether a run goes on from counts that are within the lists' room.
-fn counts_fit(s: State) -> bool
-    ensures { λ r. ⌜ Tested (CountsFit s) r ⌝ }
-{
-    if !s.more {
-        return false;
-    }
-    if s.failed {
-        return false;
-    }
-    if LINE_ROOM < s.filled {
-        return false;
-    }
-    if psl::MOST_NODES < s.psl_nodes {
-        return false;
-    }
-    if ltl::MOST_NODES < s.ltl_nodes {
-        return false;
-    }
-    if s.number == 0 {
-        return false;
-    }
-    if LAST_LINE < s.number {
-        return false;
-    }
-    true
-}
-
-// Whether a block can be taken. Once a block, what the functions below rest on is tested, the stored tables too.
-fn sound(block: &[u8], line: &[u8], psl: &[u16], ltl: &[u16], out: &[u8], s: State) -> bool
-    ensures { λ r. ⌜ Tested (Ready (now (block .entry)) s (now (line .entry)) (now (psl .entry)) (now (ltl .entry)) (now (out .entry))) r ⌝ }
-{
-    if !lists_fit(block.len(), line.len(), psl.len(), ltl.len(), out.len()) {
-        return false;
-    }
-    if !counts_fit(s) {
-        return false;
-    }
-    if s.number <= 1 {
-        return true;
-    }
-    let p = 3 * s.psl_nodes;
-    let q = 3 * s.ltl_nodes;
-    both_accepted(&psl[..p], &ltl[..q])
-}
-
-// The run stops before its input ends.
-pub fn stop(s: State) -> State
-    ensures { λ r. ⌜ r ≡ stopped s ⌝ }
-{
-    let mut r = s;
-    r.gathered = 0;
-    r.more = false;
-    r.failed = true;
-    r
-}
-
 // A block of input, the empty one being the input's end. What it prints is gathered from the start. A block that cannot be taken stops the run.
 pub fn advance(
     block: &[u8],
@@ -324,7 +145,7 @@ pub fn advance(
 ) -> State
     ensures { λ r. ⌜ AdvancesOrStops (now (block .entry)) (now (line .entry)) (now (psl .entry)) (now (ltl .entry)) (now (out .entry)) s r (now (line .exit)) (now (psl .exit)) (now (ltl .exit)) (now (out .exit)) ⌝ }
 {
-    if !sound(block, line, psl, ltl, out, s) {
+    if !ready(block, line, psl, ltl, out, s) {
         return stop(s);
     }
     let mut r = s;

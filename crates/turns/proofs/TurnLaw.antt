@@ -6,9 +6,11 @@ use mathlib.Core.List.{List, [], _++_, append-nil}
 use Prim.Native.Nat.{ℕ, _+_, _≤_}
 use native.Mathlib.Omega.{arith}
 use lib.ListN.{length, take}
-use Rattle.run.specs.Inner.{Going, mostBlock, mostLines, Within, ListsFit, Advanced, stopped, AdvancesOrStops, start, Turns, one-turn, idle}
-use Rattle.run.specs.declared.State.{State}
-use Rattle.run.proofs.StreamLaw.{within-as, within-idle, never, anew}
+use Rattle.state.specs.Inner.{mostBlock, mostLines, Within, ListsFit, stopped, start, idle}
+use Rattle.state.specs.declared.State.{State}
+use Rattle.state.proofs.StateLaw.{within-as, within-idle, never}
+use Rattle.run.specs.Inner.{Going, Advanced, AdvancesOrStops, Turns, one-turn}
+use Rattle.run.proofs.StreamLaw.{anew}
 use Rattle.turns.specs.Turn.{Turned}
 
 -- ── A turn ──

@@ -3,8 +3,9 @@ use mathlib.Core.Path.{_≡_}
 use mathlib.Core.Bool.{true, false}
 use mathlib.Core.List.{List}
 use Prim.Native.Nat.{ℕ}
-use Rattle.run.specs.Inner.{Within, Advanced}
-use Rattle.run.specs.declared.State.{State}
+use Rattle.state.specs.Inner.{Within}
+use Rattle.state.specs.declared.State.{State}
+use Rattle.run.specs.Inner.{Advanced}
 
 -- A turn took the block that was read, and handed its output over to be written; or reading or writing failed, and the run stops.
 pub record Turned (line psl ltl : List ℕ) (s r : State) (line′ psl′ ltl′ out′ : List ℕ) : Type 0 where

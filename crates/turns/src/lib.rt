@@ -2,20 +2,20 @@
 use libc::STDERR_FILENO;
 use libc::STDIN_FILENO;
 use libc::STDOUT_FILENO;
-use run::BLOCK;
-use run::LAST_LINE;
-use run::LINE_ROOM;
-use run::LTL_ROOM;
-use run::OUT_ROOM;
-use run::PSL_ROOM;
-use run::State;
 use run::advance;
-use run::stop;
+use state::BLOCK;
+use state::LAST_LINE;
+use state::LINE_ROOM;
+use state::LTL_ROOM;
+use state::OUT_ROOM;
+use state::PSL_ROOM;
+use state::State;
+use state::stop;
 ghost use mathlib.Core.Path.{_≡_};
 ghost use mathlib.Core.Logic.{_⊎_};
 ghost use mathlib.Core.Bool.{true};
 ghost use lib.ListN.{length};
-ghost use Rattle.run.specs.Inner.{Within, ListsFit, stopped, idle};
+ghost use Rattle.state.specs.Inner.{Within, ListsFit, stopped, idle};
 ghost use Rattle.turns.specs.Turn.{Turned};
 
 // A read failed. One that was interrupted is tried again; any other is told and stops the run, so that half a line is never taken for one.

@@ -1,20 +1,14 @@
 -- The tests, then the input's end or the bytes of a block.
 use borrow.Author.Tests.{not-true, not-false}
-use Rattle.run.specs.Inner.{Ready}
-use Rattle.run.proofs.StreamLaw.{finish-ready, feed-ready, passed, failed, taken, turned-away, advance-end, advance-on}
+use Rattle.state.specs.Inner.{Ready}
+use Rattle.state.proofs.StateLaw.{finish-ready, feed-ready, passed, failed}
+use Rattle.run.proofs.StreamLaw.{taken, turned-away, advance-end, advance-on}
 use borrow.Author.Needs.{needs}
 use Rattle.run.proofs.advance.Statement.{statement}
 use Rattle.run.proofs.advance.Tie as tie
 
--- Where the tests have passed, the block can be taken.
-abbrev start : tie.Else1 → tie.Start
-start e = e .before .before .before .before .before .before .before .before .before .before .before
-
-can : (e : tie.Else1) → let x = start e .args in Ready (x .block .now) (x .s) (x .line .now) (x .psl .now) (x .ltl .now) (x .out .now)
-can e = passed (e .before .sound .result) (e .before .sound .ensures) (not-false _ (e .if1 .left))
-
-sound-requires : tie.Need-sound-requires
-sound-requires c κs = search needs
+ready-requires : tie.Need-ready-requires
+ready-requires c κs = search needs
 
 stop-requires : tie.Need-stop-requires
 stop-requires c κs = search needs
@@ -32,7 +26,14 @@ same-length-4 : tie.Need-same-length-4
 same-length-4 c = search needs
 
 returns : tie.Need-returns
-returns c = turned-away (failed (c .before .before .sound .result) (c .before .before .sound .ensures) (not-true _ (c .before .if1 .taken))) (c .stop .ensures)
+returns c = turned-away (failed (c .before .before .ready .result) (c .before .before .ready .ensures) (not-true _ (c .before .if1 .taken))) (c .stop .ensures)
+
+-- Where the tests have passed, the block can be taken.
+abbrev start : tie.Else1 → tie.Start
+start e = e .before .before .before .before .before .before .before .before .before .before .before
+
+can : (e : tie.Else1) → let x = start e .args in Ready (x .block .now) (x .s) (x .line .now) (x .psl .now) (x .ltl .now) (x .out .now)
+can e = passed (e .before .ready .result) (e .before .ready .ensures) (not-false _ (e .if1 .left))
 
 finish-requires : tie.Need-finish-requires
 finish-requires c κs = finish-ready (can (c .before .before .before .before .before))
@@ -80,7 +81,7 @@ pub advance-spec : {M : Type 1} → statement M
 advance-spec =
     tie.close
     (tie.spec
-    sound-requires
+    ready-requires
     stop-requires
     same-length
     same-length-2

@@ -7,9 +7,12 @@ use borrow.Author.Needs.{needs}
 use Rattle.run.proofs.end_line.Statement.{statement}
 use Rattle.run.proofs.end_line.Tie as tie
 
-slice-aggregate-answer-first : tie.Need-slice-aggregate-answer-first
-slice-aggregate-answer-first c = let at-pre = c .before .before .before .before .before .before .before .pre in
-    sym (length-take-le _ _ (omega (arith, at-pre .0 .filled, at-pre .0 .lineRoom)))
+abbrev start : tie.After-struct-known → tie.Start
+start c = c .before .before .before .before .before .before
+
+slice-aggregate-kept : tie.Need-slice-aggregate-kept
+slice-aggregate-kept c = let pre = c .before .before .before .before .before .pre in
+    sym (length-take-le _ _ (omega (arith, pre .0 .filled, pre .0 .lineRoom)))
 
 answer-first-requires : tie.Need-answer-first-requires
 answer-first-requires c κs = search needs
@@ -24,11 +27,11 @@ same-length-3 : tie.Need-same-length-3
 same-length-3 c = search needs
 
 returns : tie.Need-returns
-returns c = let x = c .before .before .before .before .before .before .before .before .before .before .before .before .before .before .before .before .before .args in
-    let at-pre = c .before .before .before .before .before .before .before .before .before .before .before .before .before .before .before .before .before .pre in
-    let at-answer-first = c .before .before .before .before .before .before .answer-first in
-    let at-if1 = c .before .before .before .before .before .before .before .before .before .before .before .if1 in
-    line-first (x .s) (at-pre .0) (at-pre .1 .few) (at-answer-first .result) (at-if1 .taken) (at-pre .1 .first (at-if1 .taken)) (search needs) (search needs) (search needs) (at-answer-first .ensures)
+returns c = let A = c .before .before .before .before .before .before in
+    let T = A .before .before .before .before in
+    let S = start (T .before) in
+    let w = S .pre .0 in
+    line-first (S .args .s) w (S .pre .1 .few) (A .answer-first .result) (T .if1 .taken) (S .pre .1 .first (T .if1 .taken)) (search needs) (search needs) (search needs) (A .answer-first .ensures (w .pslRoom) (w .ltlRoom))
 
 mul-p : tie.Need-mul-p
 mul-p c = search needs
@@ -39,28 +42,24 @@ mul-q c = search needs
 add-t18 : tie.Need-add-t18
 add-t18 c = search needs
 
-slice-aggregate-answer-later : tie.Need-slice-aggregate-answer-later
-slice-aggregate-answer-later c = let at-pre = c .before .before .before .before .before .before .before .before .before .before .pre in
-    sym (length-take-le _ _ (omega (arith, at-pre .0 .filled, at-pre .0 .lineRoom)))
-
 slice-reshare-prefix-answer-later : tie.Need-slice-reshare-prefix-answer-later
 slice-reshare-prefix-answer-later c = search needs
 
-slice-aggregate-answer-later-2 : tie.Need-slice-aggregate-answer-later-2
-slice-aggregate-answer-later-2 c = let at-pre = c .before .before .before .before .before .before .before .before .before .before .before .pre in
-    sym (length-take-le _ _ (omega (arith, at-pre .0 .pslNodes, at-pre .0 .pslRoom)))
+slice-aggregate-answer-later : tie.Need-slice-aggregate-answer-later
+slice-aggregate-answer-later c = let w = start (c .before .before .before .before .before) .pre .0 in
+    sym (length-take-le _ _ (omega (arith, w .pslNodes, w .pslRoom)))
 
 slice-reshare-prefix-answer-later-2 : tie.Need-slice-reshare-prefix-answer-later-2
 slice-reshare-prefix-answer-later-2 c = search needs
 
-slice-aggregate-answer-later-3 : tie.Need-slice-aggregate-answer-later-3
-slice-aggregate-answer-later-3 c = let at-pre = c .before .before .before .before .before .before .before .before .before .before .before .before .pre in
-    sym (length-take-le _ _ (omega (arith, at-pre .0 .ltlNodes, at-pre .0 .ltlRoom)))
+slice-aggregate-answer-later-2 : tie.Need-slice-aggregate-answer-later-2
+slice-aggregate-answer-later-2 c = let w = start (c .before .before .before .before .before .before) .pre .0 in
+    sym (length-take-le _ _ (omega (arith, w .ltlNodes, w .ltlRoom)))
 
 answer-later-requires : tie.Need-answer-later-requires
-answer-later-requires c κs = let at-pre = c .before .before .before .before .before .before .before .before .before .before .before .before .before .pre in
-    let at-if1 = c .before .before .before .before .before .before .before .if1 in
-    at-pre .0 .stored (omega (arith, at-if1 .left)) (at-pre .2)
+answer-later-requires c κs = let E = c .before .before .before .before .before .before in
+    let pre = start (E .before) .pre in
+    pre .0 .stored (omega (arith, E .if1 .left)) (pre .2)
 
 same-length-4 : tie.Need-same-length-4
 same-length-4 c = search needs
@@ -72,17 +71,16 @@ same-length-6 : tie.Need-same-length-6
 same-length-6 c = search needs
 
 returns-2 : tie.Need-returns-2
-returns-2 c = let x = c .before .before .before .before .before .before .before .before .before .before .before .before .before .before .before .before .args in
-    let at-pre = c .before .before .before .before .before .before .before .before .before .before .before .before .before .before .before .before .pre in
-    let at-answer-later = c .before .before .answer-later in
-    let at-if1 = c .before .before .before .before .before .before .before .before .before .before .if1 in
-    line-later (x .s) (at-pre .0) (at-pre .1 .few) (at-answer-later .result) (omega (arith, at-if1 .left)) (at-pre .2) (search needs) (at-answer-later .ensures)
+returns-2 c = let A = c .before .before in
+    let E = A .before .before .before .before .before .before .before in
+    let S = start (E .before) in
+    line-later (S .args .s) (S .pre .0) (S .pre .1 .few) (A .answer-later .result) (omega (arith, E .if1 .left)) (S .pre .2) (search needs) (A .answer-later .ensures)
 
 pub end-line-spec : {M : Type 1} → statement M
 end-line-spec =
     tie.close
     (tie.spec
-    slice-aggregate-answer-first
+    slice-aggregate-kept
     answer-first-requires
     same-length
     same-length-2
@@ -91,11 +89,10 @@ end-line-spec =
     mul-p
     mul-q
     add-t18
-    slice-aggregate-answer-later
     slice-reshare-prefix-answer-later
-    slice-aggregate-answer-later-2
+    slice-aggregate-answer-later
     slice-reshare-prefix-answer-later-2
-    slice-aggregate-answer-later-3
+    slice-aggregate-answer-later-2
     answer-later-requires
     same-length-4
     same-length-5

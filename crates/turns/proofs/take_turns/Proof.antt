@@ -6,7 +6,8 @@ use lib.ListN.{length-replicate}
 use borrow.Author.Needs.{needs}
 use Rattle.psl.specs.Check.{pslRules}
 use Rattle.ltl.specs.Check.{ltlRules}
-use Rattle.run.specs.Inner.{keptBytes, gatheringRoom}
+use Rattle.answers.specs.Inner.{keptBytes}
+use Rattle.state.specs.Inner.{gatheringRoom}
 use Rattle.turns.proofs.take_turns.Statement.{statement}
 use Rattle.turns.proofs.take_turns.Tie as tie
 

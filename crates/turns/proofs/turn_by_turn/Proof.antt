@@ -5,7 +5,8 @@ use mathlib.Core.List.{[]}
 use native.Mathlib.Omega.{arith}
 use Prim.Native.Nat.{_<_}
 use borrow.Author.Needs.{needs}
-use Rattle.run.specs.Inner.{Within, no-turn}
+use Rattle.state.specs.Inner.{Within}
+use Rattle.run.specs.Inner.{no-turn}
 use Rattle.turns.proofs.TurnLaw.{within-start, Underway, underway-turn}
 use Rattle.turns.proofs.turn_by_turn.Statement.{statement}
 use Rattle.turns.proofs.turn_by_turn.Tie as tie

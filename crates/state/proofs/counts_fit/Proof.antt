@@ -1,9 +1,9 @@
 -- One test after another.
 use borrow.Author.Tests.{not-true, not-false}
-use Rattle.run.proofs.StreamLaw.{never}
+use Rattle.state.proofs.StateLaw.{never}
 use borrow.Author.Needs.{needs}
-use Rattle.run.proofs.counts_fit.Statement.{statement}
-use Rattle.run.proofs.counts_fit.Tie as tie
+use Rattle.state.proofs.counts_fit.Statement.{statement}
+use Rattle.state.proofs.counts_fit.Tie as tie
 
 returns : tie.Need-returns
 returns c = λ k. never (k .more) (not-true _ (c .if1 .taken))

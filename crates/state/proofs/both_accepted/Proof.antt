@@ -1,9 +1,9 @@
 -- One check, then the other.
 use Rattle.table.proofs.CheckLaw.{accepted}
-use Rattle.run.proofs.StreamLaw.{not-accepted}
+use Rattle.state.proofs.StateLaw.{not-accepted}
 use borrow.Author.Needs.{needs}
-use Rattle.run.proofs.both_accepted.Statement.{statement}
-use Rattle.run.proofs.both_accepted.Tie as tie
+use Rattle.state.proofs.both_accepted.Statement.{statement}
+use Rattle.state.proofs.both_accepted.Tie as tie
 
 check-psl-requires : tie.Need-check-psl-requires
 check-psl-requires c κs = search needs

@@ -4,11 +4,11 @@ use native.Mathlib.Omega.{arith}
 use borrow.Author.Tests.{not-true, not-false}
 use lib.ListN.{length}
 use lib.Seq.{length-take-le}
-use Rattle.run.specs.Inner.{ListsFit, CountsFit}
-use Rattle.run.proofs.StreamLaw.{passed, failed, ready, ready-lists, ready-counts, tested-ready}
+use Rattle.state.specs.Inner.{ListsFit, CountsFit}
+use Rattle.state.proofs.StateLaw.{passed, failed, fit-ready, ready-lists, ready-counts, tested-ready}
 use borrow.Author.Needs.{needs}
-use Rattle.run.proofs.sound.Statement.{statement}
-use Rattle.run.proofs.sound.Tie as tie
+use Rattle.state.proofs.ready.Statement.{statement}
+use Rattle.state.proofs.ready.Tie as tie
 
 -- What the tests that were passed have told.
 abbrev start : tie.Else1 → tie.Start
@@ -34,7 +34,7 @@ returns-2 c = λ y. failed (c .before .counts-fit .result) (c .before .counts-fi
 
 returns-3 : tie.Need-returns-3
 returns-3 c = let E = c .before .before in
-    ready (lists (E .before .before)) (counts E) (λ h. absurd (omega (arith, h, c .if3 .taken)))
+    fit-ready (lists (E .before .before)) (counts E) (λ h. absurd (omega (arith, h, c .if3 .taken)))
 
 mul-p : tie.Need-mul-p
 mul-p c = let E = c .before .before .before in
@@ -60,8 +60,8 @@ returns-4 c = let E = c .before .before .before .before .before .before .before 
     let x = start (E .before .before) .args in
     tested-ready (x .block .now) (x .line .now) (x .psl .now) (x .ltl .now) (x .out .now) (x .s) (c .both-accepted .result) (lists (E .before .before)) (counts E) (omega (arith, c .before .before .before .before .before .if3 .left)) (c .both-accepted .ensures)
 
-pub sound-spec : {M : Type 1} → statement M
-sound-spec =
+pub ready-spec : {M : Type 1} → statement M
+ready-spec =
     tie.close
     (tie.spec
     lists-fit-requires

@@ -9,10 +9,10 @@ use Rattle.translate.specs.Emitted.{emitted}
 use Rattle.formula_lines.specs.Spelling.{formulaLine}
 use Rattle.text.specs.Reading.{Takes, Refuses}
 use Rattle.formula_lines.specs.FormulaAnswer.{formulaLimits}
-use Rattle.run.specs.Input.{inputLines}
+use Rattle.answers.specs.Input.{inputLines}
 use Rattle.printing.specs.Printed.{refusedText, tableText}
 use Rattle.answers.specs.Answer.{LaterAnswer, laterText}
 use Rattle.answers.specs.declared.Later.{Later}
 
 -- ── Trace lines ──
 

@@ -3,10 +3,11 @@ use mathlib.Core.Path.{_≡_, refl, ap, sym, _∙_}
 use mathlib.Core.Bool.{Bool, true, false, cond}
 use mathlib.Core.List.{List, [], _∷_, _++_, head-eq-of-cons-eq}
 use native.Mathlib.Omega.{arith}
-use Prim.Native.Nat.{ℕ}
+use Prim.Native.Nat.{ℕ, _<_}
 use lib.Dec.{eqb}
+use lib.ListN.{length, length-append}
 use Rattle.table.specs.Node.{_▸_}
-use Rattle.run.specs.Input.{endedAfter, openAfter, endedLines, openLine, withLast, inputLines}
+use Rattle.answers.specs.Input.{endedAfter, openAfter, endedLines, openLine, withLast, inputLines}
 
 -- ── Byte 10 ──
 
@@ -91,3 +92,14 @@ only-line s e = ap (λ (ls : List (List ℕ)). withLast ls (openLine s)) e ∙ s
 
 pub no-last : (s l : List ℕ) (ls : List (List ℕ)) → endedLines s ≡ l ∷ ls → openLine s ≡ [] → inputLines s ≡ l ∷ ls
 no-last s l ls e o = ap (λ (x : List ℕ). withLast (endedLines s) x) o ∙ ap (λ (ms : List (List ℕ)). withLast ms []) e
+
+-- Behind byte 10 no line is open: the lines that have ended are all.
+pub some-ended : (s : List ℕ) → 0 < length (endedLines (s ▸ 10))
+some-ended s = omega (arith, ap length (ended-end s []), length-append (endedLines s) (openLine s ∷ []))
+
+pub all-ended : (s : List ℕ) → inputLines (s ▸ 10) ≡ endedLines (s ▸ 10)
+all-ended s = go (endedLines (s ▸ 10)) refl
+  where
+    go : (ls : List (List ℕ)) → endedLines (s ▸ 10) ≡ ls → inputLines (s ▸ 10) ≡ endedLines (s ▸ 10)
+    go [] e = absurd (omega (arith, some-ended s, ap length e))
+    go (l ∷ ls) e = no-last (s ▸ 10) l ls e (open-end s []) ∙ sym e
