@@ -11,7 +11,6 @@ use lib.Dec.{ltb}
 use lib.ListN.{length, take, length-append, length-take}
 use lib.Seq.{take-all, take-suc-set, take-append-le, length-take-le}
 use Rattle.table.specs.Node.{_▸_}
-use Rattle.logic.specs.Formula.{Formula}
 use Rattle.translate.specs.Emitted.{emitted}
 use Rattle.text.specs.Limits.{mostBytes}
 use Rattle.answers.specs.Input.{endedAfter, openAfter, endedLines, openLine, inputLines}

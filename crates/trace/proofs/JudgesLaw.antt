@@ -2,7 +2,7 @@
 use mathlib.Core.Path.{_≡_, refl, sym, subst, ap, _∙_}
 use mathlib.Core.Bool.{Bool, true, false, cond}
 use mathlib.Core.Logic.{_↔_}
-use mathlib.Core.Option.{Option, none, some, Option·some-ne-none}
+use mathlib.Core.Option.{Option, none, Option·some-ne-none}
 use lib.Dec.{T}
 use Rattle.trace.specs.declared.Refusal.{Refusal}
 use Rattle.trace.specs.declared.Verdict.{Verdict}

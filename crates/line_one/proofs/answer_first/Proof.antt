@@ -1,8 +1,8 @@
 -- The text of either answer.
-use mathlib.Core.Path.{_≡_, sym}
+use mathlib.Core.Path.{sym}
 use native.Mathlib.Omega.{arith}
 use Prim.Native.Nat.{_*_}
-use lib.ListN.{length, length-take}
+use lib.ListN.{length-take}
 use lib.Seq.{length-take-le}
 use Rattle.line_one.proofs.FirstLaw.{table-stored, first-refused, first-tables}
 use borrow.Author.Needs.{needs}

@@ -1,15 +1,14 @@
 -- `ltl_verdict::fill_rows` meets its contract. The invariant: the first i words are the rows of the first i nodes.
 use borrow.Author.Needs.{needs}
 use native.Mathlib.Omega.{arith}
-use mathlib.Core.Path.{_≡_, refl, sym, subst, _∙_}
+use mathlib.Core.Path.{_≡_, refl, subst, _∙_}
 use mathlib.Core.Logic.{⊎-elim}
 use Prim.Native.Nat.{ℕ, _+_, _-_, _≤_, _<_}
 use lib.ListN.{length, getD, set, length-set}
 use Rattle.logic.specs.Letter.{signals}
 use Rattle.table.specs.Node.{count, kindAt, leftAt, rightAt}
 use Rattle.ltl.proofs.AcceptedLaw.{is-var, operands-below}
-use Rattle.logic.specs.Tree.{lvar}
-use Rattle.rows.specs.Inner.Rows.{Tells, TellsNode, RowsKnown}
+use Rattle.rows.specs.Inner.Rows.{TellsNode, RowsKnown}
 use Rattle.rows.proofs.SignalLaw.{known-none}
 use Rattle.rows.proofs.TableLaw.{FirstRows, rows-none, rows-more, rows-all, tells-signal}
 use Rattle.ltl_verdict.proofs.fill_rows.Statement.{statement}
