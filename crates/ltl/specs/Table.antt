@@ -26,3 +26,25 @@ treeOf t = root ltrue treeOfNode t
 -- The tree of node i.
 unfoldable pub treeAt : List ℕ → ℕ → Ltl
 treeAt t i = valueAt ltrue treeOfNode t i
+
+-- The node of each kind, its kind number first.
+abbrev pub trueNode : Node
+trueNode = node 0 0 0
+
+abbrev pub varNode : ℕ → Node
+varNode k = node 1 k 0
+
+abbrev pub notNode : ℕ → Node
+notNode x = node 2 x 0
+
+abbrev pub andNode : ℕ → ℕ → Node
+andNode x y = node 3 x y
+
+abbrev pub orNode : ℕ → ℕ → Node
+orNode x y = node 4 x y
+
+abbrev pub nextNode : ℕ → Node
+nextNode x = node 5 x 0
+
+abbrev pub untilNode : ℕ → ℕ → Node
+untilNode x y = node 6 x y

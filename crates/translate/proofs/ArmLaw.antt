@@ -2,18 +2,21 @@
 use mathlib.Core.Path.{_≡_, refl, sym, ap, subst, _∙_}
 use mathlib.Core.Option.{none}
 use mathlib.Core.List.{List}
-use Prim.Native.Nat.{ℕ, _+_, _-_, _≤_, _<_}
+use Prim.Native.Nat.{ℕ, _+_, _≤_, _<_}
 use mathlib.Core.Bool.{cond}
 use native.Mathlib.Omega.{arith}
 use lib.Dec.{eqb}
-use native.Mathlib.Decide.{decLt}
+use native.Mathlib.Decide.{decLt, ℕ-discrete}
 use Rattle.table.specs.Node.{Node, node, _▸_, count, kindAt, leftAt, rightAt}
 use Rattle.logic.specs.Formula.{BoolExpr, btrue, var, bnot, band, Formula, weak, strong, fnot, fand, next, until, abort}
 use Rattle.psl.specs.Size.{weighB, weigh}
-use Rattle.psl.specs.Check.{pslRefusal}
+use Rattle.psl.specs.Check.{pslRules, pslRefusal}
+use Rattle.table.proofs.CheckLaw.{left-fits}
+use Rattle.psl.proofs.CheckLaw.{psl-table}
 use Rattle.psl.specs.Inner.Parts.{booleanAt, formulaAt}
-use Rattle.psl.proofs.AcceptedLaw.{Boolean, Formula as IsFormula, kind-known, is-weak, is-strong, is-and, is-until}
-use Rattle.translate.specs.Emitted.{varN, notN, andN, nextN, untilN, adds, walkB, gate, literal, walk}
+use Rattle.psl.proofs.AcceptedLaw.{Boolean, Formula as IsFormula, kind-known, is-true, is-var, is-bnot, is-band, is-weak, is-strong, is-and, is-next, is-until}
+use Rattle.ltl.specs.Table.{notNode, andNode, nextNode, untilNode}
+use Rattle.translate.specs.Emitted.{addedBy, walkedB, gated, walked}
 use Rattle.translate.specs.Inner.Stored.{Walks}
 use Rattle.translate.proofs.StoredLaw.{walks-then, walks-both}
 
@@ -22,66 +25,66 @@ abbrev pub Node1 : ℕ → ℕ → ℕ → ℕ → ℕ → List ℕ → List ℕ
 Node1 k x y n m old now = Walks 1 (λ ns. ns ▸ node k x y) n m old now
 
 abbrev pub WalksB : BoolExpr → ℕ → ℕ → List ℕ → List ℕ → Type 0
-WalksB b n m old now = Walks (weighB adds b) (walkB b) n m old now
+WalksB b n m old now = Walks (weighB addedBy b) (walkedB b) n m old now
 
 abbrev pub WalksF : Formula → ℕ → ℕ → ℕ → ℕ → List ℕ → List ℕ → Type 0
-WalksF f a r n m old now = Walks (weigh adds f) (walk f a r) n m old now
+WalksF f a r n m old now = Walks (weigh addedBy f) (walked f a r) n m old now
 
 -- ── Weights ──
 
-pub weight-true : {b : BoolExpr} → b ≡ btrue → weighB adds b ≡ 1
-unfolding weighB adds
-weight-true e = ap (weighB adds) e
+pub weight-true : {b : BoolExpr} → b ≡ btrue → weighB addedBy b ≡ 1
+unfolding weighB addedBy
+weight-true e = ap (weighB addedBy) e
 
-pub weight-var : {b : BoolExpr} {k : ℕ} → b ≡ var k → weighB adds b ≡ 1
-unfolding weighB adds
-weight-var e = ap (weighB adds) e
+pub weight-var : {b : BoolExpr} {k : ℕ} → b ≡ var k → weighB addedBy b ≡ 1
+unfolding weighB addedBy
+weight-var e = ap (weighB addedBy) e
 
-pub weight-bnot : {b c : BoolExpr} → b ≡ bnot c → weighB adds b ≡ weighB adds c + 1
-unfolding weighB adds
-weight-bnot e = ap (weighB adds) e ∙ omega arith
+pub weight-bnot : {b c : BoolExpr} → b ≡ bnot c → weighB addedBy b ≡ weighB addedBy c + 1
+unfolding weighB addedBy
+weight-bnot e = ap (weighB addedBy) e ∙ omega arith
 
-pub weight-band : {b c d : BoolExpr} → b ≡ band c d → weighB adds b ≡ weighB adds c + weighB adds d + 1
-unfolding weighB adds
-weight-band e = ap (weighB adds) e ∙ omega arith
+pub weight-band : {b c d : BoolExpr} → b ≡ band c d → weighB addedBy b ≡ weighB addedBy c + weighB addedBy d + 1
+unfolding weighB addedBy
+weight-band e = ap (weighB addedBy) e ∙ omega arith
 
-pub weight-weak : {f : Formula} {b : BoolExpr} → f ≡ weak b → weigh adds f ≡ weighB adds b + 3
-unfolding weigh adds
-weight-weak e = ap (weigh adds) e ∙ omega arith
+pub weight-weak : {f : Formula} {b : BoolExpr} → f ≡ weak b → weigh addedBy f ≡ weighB addedBy b + 3
+unfolding weigh addedBy
+weight-weak e = ap (weigh addedBy) e ∙ omega arith
 
-pub weight-strong : {f : Formula} {b : BoolExpr} → f ≡ strong b → weigh adds f ≡ weighB adds b + 3
-unfolding weigh adds
-weight-strong e = ap (weigh adds) e ∙ omega arith
+pub weight-strong : {f : Formula} {b : BoolExpr} → f ≡ strong b → weigh addedBy f ≡ weighB addedBy b + 3
+unfolding weigh addedBy
+weight-strong e = ap (weigh addedBy) e ∙ omega arith
 
-pub weight-not : {f g : Formula} → f ≡ fnot g → weigh adds f ≡ weigh adds g + 1
-unfolding weigh adds
-weight-not e = ap (weigh adds) e ∙ omega arith
+pub weight-not : {f g : Formula} → f ≡ fnot g → weigh addedBy f ≡ weigh addedBy g + 1
+unfolding weigh addedBy
+weight-not e = ap (weigh addedBy) e ∙ omega arith
 
-pub weight-and : {f g h : Formula} → f ≡ fand g h → weigh adds f ≡ weigh adds g + weigh adds h + 1
-unfolding weigh adds
-weight-and e = ap (weigh adds) e ∙ omega arith
+pub weight-and : {f g h : Formula} → f ≡ fand g h → weigh addedBy f ≡ weigh addedBy g + weigh addedBy h + 1
+unfolding weigh addedBy
+weight-and e = ap (weigh addedBy) e ∙ omega arith
 
-pub weight-until : {f g h : Formula} → f ≡ until g h → weigh adds f ≡ weigh adds g + weigh adds h + 1
-unfolding weigh adds
-weight-until e = ap (weigh adds) e ∙ omega arith
+pub weight-until : {f g h : Formula} → f ≡ until g h → weigh addedBy f ≡ weigh addedBy g + weigh addedBy h + 1
+unfolding weigh addedBy
+weight-until e = ap (weigh addedBy) e ∙ omega arith
 
-pub weight-next : {f g : Formula} → f ≡ next g → weigh adds f ≡ weigh adds g + 4
-unfolding weigh adds
-weight-next e = ap (weigh adds) e ∙ omega arith
+pub weight-next : {f g : Formula} → f ≡ next g → weigh addedBy f ≡ weigh addedBy g + 4
+unfolding weigh addedBy
+weight-next e = ap (weigh addedBy) e ∙ omega arith
 
-pub weight-abort : {f g : Formula} {b : BoolExpr} → f ≡ abort g b → weigh adds f ≡ weighB adds b + 3 + weigh adds g
-unfolding weigh adds
-weight-abort e = ap (weigh adds) e ∙ omega arith
+pub weight-abort : {f g : Formula} {b : BoolExpr} → f ≡ abort g b → weigh addedBy f ≡ weighB addedBy b + 3 + weigh addedBy g
+unfolding weigh addedBy
+weight-abort e = ap (weigh addedBy) e ∙ omega arith
 
-pub weightB-pos : (b : BoolExpr) → 0 < weighB adds b
-unfolding weighB adds
+pub weightB-pos : (b : BoolExpr) → 0 < weighB addedBy b
+unfolding weighB addedBy
 weightB-pos btrue = omega arith
 weightB-pos (var k) = omega arith
 weightB-pos (bnot b) = omega arith
 weightB-pos (band b c) = omega arith
 
-pub weight-pos : (f : Formula) → 0 < weigh adds f
-unfolding weigh adds
+pub weight-pos : (f : Formula) → 0 < weigh addedBy f
+unfolding weigh addedBy
 weight-pos (weak b) = omega arith
 weight-pos (strong b) = omega arith
 weight-pos (fnot f) = omega arith
@@ -90,40 +93,55 @@ weight-pos (next f) = omega arith
 weight-pos (until f g) = omega arith
 weight-pos (abort f b) = omega arith
 
--- A walk stores a node: the next number has one before it.
-pub some-boolean : (b : BoolExpr) {n m : ℕ} {old now : List ℕ} → WalksB b n m old now → 1 ≤ m
-some-boolean b w = omega (arith, w .next, weightB-pos b)
-
-pub some-formula : (f : Formula) (a r : ℕ) {n m : ℕ} {old now : List ℕ} → WalksF f a r n m old now → 1 ≤ m
-some-formula f a r w = omega (arith, w .next, weight-pos f)
-
 -- ── Booleans ──
 
 as-boolean : {b c : BoolExpr} {n m : ℕ} {old now : List ℕ} → b ≡ c → WalksB c n m old now → WalksB b n m old now
 as-boolean {b} {c} {n} {m} {old} {now} e w = subst (λ (d : BoolExpr). WalksB d n m old now) (sym e) w
 
-pub arm-true : {b : BoolExpr} {n m : ℕ} {old now : List ℕ} → b ≡ btrue → Node1 0 0 0 n m old now → WalksB b n m old now
-unfolding walkB weighB adds
+arm-true : {b : BoolExpr} {n m : ℕ} {old now : List ℕ} → b ≡ btrue → Node1 0 0 0 n m old now → WalksB b n m old now
+unfolding walkedB weighB addedBy
 arm-true e w = as-boolean e w
 
-pub arm-var : {b : BoolExpr} {k n m : ℕ} {old now : List ℕ} → b ≡ var k → Walks 1 (λ ns. ns ▸ varN k) n m old now → WalksB b n m old now
-unfolding walkB weighB adds
+arm-var : {b : BoolExpr} {k n m : ℕ} {old now : List ℕ} → b ≡ var k → Node1 1 k 0 n m old now → WalksB b n m old now
+unfolding walkedB weighB addedBy
 arm-var e w = as-boolean e w
 
-pub arm-bnot : {b c : BoolExpr} {n m p : ℕ} {old mid now : List ℕ} → b ≡ bnot c → WalksB c n m old mid → Node1 2 (m - 1) 0 m p mid now
-    → WalksB b n p old now
-unfolding walkB
-arm-bnot e w v = as-boolean e (walks-then (λ i ns. ns ▸ notN i) (weight-bnot refl) w v)
+pub arm-bnot : {b c : BoolExpr} {n m p : ℕ} {old mid now : List ℕ} → b ≡ bnot c → WalksB c n m old mid → Node1 2 m 0 m p mid now → WalksB b n p old now
+unfolding walkedB
+arm-bnot e w v = as-boolean e (walks-then (λ i ns. ns ▸ notNode i) (weight-bnot refl) w v)
 
 pub arm-band : {b c d : BoolExpr} {n m p q : ℕ} {old mid mid′ now : List ℕ} → b ≡ band c d → WalksB c n m old mid → WalksB d m p mid mid′
-    → Node1 3 (m - 1) (p - 1) p q mid′ now → WalksB b n q old now
-unfolding walkB
-arm-band e w v u = as-boolean e (walks-both (λ i j ns. ns ▸ andN i j) (weight-band refl) w v u)
+    → Node1 3 m p p q mid′ now → WalksB b n q old now
+unfolding walkedB
+arm-band e w v u = as-boolean e (walks-both (λ i j ns. ns ▸ andNode i j) (weight-band refl) w v u)
 
--- A Boolean under its gate.
-pub arm-literal : (b : BoolExpr) (a r : ℕ) {n m p : ℕ} {old mid now : List ℕ} → WalksB b n m old mid → Walks 3 (gate (m - 1) a r) m p mid now
-    → Walks (weighB adds b + 3) (literal b a r) n p old now
-arm-literal b a r w v = walks-then (λ i. gate i a r) refl w v
+-- A true or a var node, which is the same in both tables.
+pub record Leaf (t : List ℕ) (i : ℕ) : Type 0 where
+  pub weight : weighB addedBy (booleanAt t i) ≡ 1
+  pub arm : {n m : ℕ} {old now : List ℕ} → Node1 (kindAt t i) (leftAt t i) 0 n m old now → WalksB (booleanAt t i) n m old now
+
+pub leaf-node : (t : List ℕ) → pslRefusal t ≡ none → (i : ℕ) → i < count t → kindAt t i < 2 → Leaf t i
+leaf-node t s i h lo = go (decLt (kindAt t i) 1)
+  where
+    go : Dec (kindAt t i < 1) → Leaf t i
+    go (yes d) =
+        let e : kindAt t i ≡ 0 = omega arith in
+        let z : leftAt t i ≡ 0 = omega (arith, left-fits pslRules t (psl-table t s) i h 0 e .low) in
+        let b = is-true t s i h e in
+        record { weight = weight-true b; arm = λ w. arm-true b (rw (e, z) at w) }
+    go (no d) =
+        let e : kindAt t i ≡ 1 = omega arith in
+        let b = is-var t s i h e .1 in
+        record { weight = weight-var b; arm = λ w. arm-var b (rw e at w) }
+
+-- The left operand of a bnot or a band node.
+pub left-boolean : (t : List ℕ) → pslRefusal t ≡ none → (i : ℕ) → i < count t → 2 ≤ kindAt t i → kindAt t i < 4
+    → Boolean t i (leftAt t i) × (weighB addedBy (booleanAt t (leftAt t i)) ≤ weighB addedBy (booleanAt t i))
+left-boolean t s i h lo hi = go (decLt (kindAt t i) 3)
+  where
+    go : Dec (kindAt t i < 3) → Boolean t i (leftAt t i) × (weighB addedBy (booleanAt t (leftAt t i)) ≤ weighB addedBy (booleanAt t i))
+    go (yes d) = let b = is-bnot t s i h (omega arith) in (b .0, omega (arith, weight-bnot (b .1)))
+    go (no d) = let b = is-band t s i h (omega arith) in (b .0, omega (arith, weight-band (b .2)))
 
 -- ── Formulas ──
 
@@ -133,50 +151,46 @@ as-formula a r {f} {g} {n} {m} {old} {now} e w = subst (λ (h : Formula). WalksF
 weighs : {w v n m : ℕ} {f : List Node → List Node} {old now : List ℕ} → w ≡ v → Walks v f n m old now → Walks w f n m old now
 weighs {w} {v} {n} {m} {f} {old} {now} e h = subst (λ (u : ℕ). Walks u f n m old now) (sym e) h
 
-pub arm-weak : (a r : ℕ) {f : Formula} {b : BoolExpr} {n m : ℕ} {old now : List ℕ} → f ≡ weak b → Walks (weighB adds b + 3) (literal b a r) n m old now
+pub arm-weak : (a r : ℕ) {f : Formula} {b : BoolExpr} {n m : ℕ} {old now : List ℕ} → f ≡ weak b → Walks (weighB addedBy b + 3) (λ ns. gated a r (walkedB b ns)) n m old now
     → WalksF f a r n m old now
-unfolding walk
+unfolding walked
 arm-weak a r e w = as-formula a r e (weighs (weight-weak refl) w)
 
 pub arm-strong : (a r : ℕ) {f : Formula} {b : BoolExpr} {n m : ℕ} {old now : List ℕ} → f ≡ strong b
-    → Walks (weighB adds b + 3) (literal b a r) n m old now → WalksF f a r n m old now
-unfolding walk
+    → Walks (weighB addedBy b + 3) (λ ns. gated a r (walkedB b ns)) n m old now → WalksF f a r n m old now
+unfolding walked
 arm-strong a r e w = as-formula a r e (weighs (weight-strong refl) w)
 
-pub arm-not : (a r : ℕ) {f g : Formula} {n m p : ℕ} {old mid now : List ℕ} → f ≡ fnot g → WalksF g r a n m old mid → Node1 2 (m - 1) 0 m p mid now
+pub arm-not : (a r : ℕ) {f g : Formula} {n m p : ℕ} {old mid now : List ℕ} → f ≡ fnot g → WalksF g r a n m old mid → Node1 2 m 0 m p mid now
     → WalksF f a r n p old now
-unfolding walk
-arm-not a r e w v = as-formula a r e (walks-then (λ i ns. ns ▸ notN i) (weight-not refl) w v)
+unfolding walked
+arm-not a r e w v = as-formula a r e (walks-then (λ i ns. ns ▸ notNode i) (weight-not refl) w v)
 
 pub arm-and : (a r : ℕ) {f g h : Formula} {n m p q : ℕ} {old mid mid′ now : List ℕ} → f ≡ fand g h → WalksF g a r n m old mid
-    → WalksF h a r m p mid mid′ → Node1 3 (m - 1) (p - 1) p q mid′ now → WalksF f a r n q old now
-unfolding walk
-arm-and a r e w v u = as-formula a r e (walks-both (λ i j ns. ns ▸ andN i j) (weight-and refl) w v u)
+    → WalksF h a r m p mid mid′ → Node1 3 m p p q mid′ now → WalksF f a r n q old now
+unfolding walked
+arm-and a r e w v u = as-formula a r e (walks-both (λ i j ns. ns ▸ andNode i j) (weight-and refl) w v u)
 
 pub arm-until : (a r : ℕ) {f g h : Formula} {n m p q : ℕ} {old mid mid′ now : List ℕ} → f ≡ until g h → WalksF g a r n m old mid
-    → WalksF h a r m p mid mid′ → Node1 6 (m - 1) (p - 1) p q mid′ now → WalksF f a r n q old now
-unfolding walk
-arm-until a r e w v u = as-formula a r e (walks-both (λ i j ns. ns ▸ untilN i j) (weight-until refl) w v u)
+    → WalksF h a r m p mid mid′ → Node1 6 m p p q mid′ now → WalksF f a r n q old now
+unfolding walked
+arm-until a r e w v u = as-formula a r e (walks-both (λ i j ns. ns ▸ untilNode i j) (weight-until refl) w v u)
 
-pub arm-next : (a r : ℕ) {f g : Formula} {n m p q : ℕ} {old mid mid′ now : List ℕ} → f ≡ next g → WalksF g a r n m old mid
-    → Node1 5 (m - 1) 0 m p mid mid′ → Walks 3 (gate m a r) p q mid′ now → WalksF f a r n q old now
-unfolding walk
-arm-next a r {f} {g} {n} {m} {p} {q} {old} {mid} {mid′} {now} e w v u =
-    let d : m ≡ p - 1 = omega (arith, v .next) in
-    let x : Walks 3 (gate (p - 1) a r) p q mid′ now = subst (λ (i : ℕ). Walks 3 (gate i a r) p q mid′ now) d u in
-    as-formula a r e
-    (weighs (weight-next refl ∙ omega arith) (walks-then (λ i. gate i a r) refl (walks-then (λ i ns. ns ▸ nextN i) refl w v) x))
+pub arm-next : (a r : ℕ) {f g : Formula} {n m p : ℕ} {old mid now : List ℕ} → f ≡ next g → WalksF g a r n m old mid
+    → Walks 4 (λ ns. gated a r (ns ▸ nextNode m)) m p mid now → WalksF f a r n p old now
+unfolding walked
+arm-next a r e w v = as-formula a r e (walks-then (λ i ns. gated a r (ns ▸ nextNode i)) (weight-next refl) w v)
 
 pub arm-abort : (a r : ℕ) {f g : Formula} {b : BoolExpr} {n m p : ℕ} {old mid now : List ℕ} → f ≡ abort g b
-    → Walks (weighB adds b + 3) (literal b a r) n m old mid → WalksF g (m - 1) r m p mid now → WalksF f a r n p old now
-unfolding walk
-arm-abort a r {f} {g} e w v = as-formula a r e (walks-then (λ i. walk g i r) (weight-abort refl) w v)
+    → Walks (weighB addedBy b + 3) (λ ns. gated a r (walkedB b ns)) n m old mid → WalksF g m r m p mid now → WalksF f a r n p old now
+unfolding walked
+arm-abort a r {f} {g} e w v = as-formula a r e (walks-then (λ i. walked g i r) (weight-abort refl) w v)
 
 -- A weak or a strong node.
 pub record Literal (t : List ℕ) (i : ℕ) : Type 0 where
   pub operand : Boolean t i (leftAt t i)
-  pub weight : weigh adds (formulaAt t i) ≡ weighB adds (booleanAt t (leftAt t i)) + 3
-  pub arm : (a r : ℕ) {n m : ℕ} {old now : List ℕ} → Walks (weighB adds (booleanAt t (leftAt t i)) + 3) (literal (booleanAt t (leftAt t i)) a r) n m old now
+  pub weight : weigh addedBy (formulaAt t i) ≡ weighB addedBy (booleanAt t (leftAt t i)) + 3
+  pub arm : (a r : ℕ) {n m : ℕ} {old now : List ℕ} → Walks (weighB addedBy (booleanAt t (leftAt t i)) + 3) (λ ns. gated a r (walkedB (booleanAt t (leftAt t i)) ns)) n m old now
       → WalksF (formulaAt t i) a r n m old now
 
 pub literal-node : (t : List ℕ) → pslRefusal t ≡ none → (i : ℕ) → i < count t → 4 ≤ kindAt t i → kindAt t i < 6 → Literal t i
@@ -194,9 +208,9 @@ literal-node t s i h lo hi = go (decLt (kindAt t i) 5)
 pub record Joined (t : List ℕ) (i : ℕ) : Type 0 where
   pub left : IsFormula t i (leftAt t i)
   pub right : IsFormula t i (rightAt t i)
-  pub weight : weigh adds (formulaAt t i) ≡ weigh adds (formulaAt t (leftAt t i)) + weigh adds (formulaAt t (rightAt t i)) + 1
+  pub weight : weigh addedBy (formulaAt t i) ≡ weigh addedBy (formulaAt t (leftAt t i)) + weigh addedBy (formulaAt t (rightAt t i)) + 1
   pub arm : (a r : ℕ) {n m p q k : ℕ} {old mid mid′ now : List ℕ} → k ≡ cond (eqb (kindAt t i) 9) 6 3 → WalksF (formulaAt t (leftAt t i)) a r n m old mid
-      → WalksF (formulaAt t (rightAt t i)) a r m p mid mid′ → Node1 k (m - 1) (p - 1) p q mid′ now → WalksF (formulaAt t i) a r n q old now
+      → WalksF (formulaAt t (rightAt t i)) a r m p mid mid′ → Node1 k m p p q mid′ now → WalksF (formulaAt t i) a r n q old now
 
 pub joined-node : (t : List ℕ) → pslRefusal t ≡ none → (i : ℕ) → i < count t → 6 ≤ kindAt t i → (kindAt t i ≡ 6 → ⊥) → (kindAt t i ≡ 8 → ⊥)
     → (kindAt t i ≡ 10 → ⊥) → Joined t i
@@ -214,7 +228,7 @@ joined-node t s i h lo n6 n8 n10 = go (decLt (kindAt t i) 8)
           right = f .1;
           weight = weight-and (f .2);
           arm = λ a r {n} {m} {p} {q} {k} {old} {mid} {mid′} {now} z w v u.
-              arm-and a r (f .2) w v (subst (λ (j : ℕ). Node1 j (m - 1) (p - 1) p q mid′ now) (z ∙ ap (λ (j : ℕ). cond (eqb j 9) 6 3) e) u);
+              arm-and a r (f .2) w v (subst (λ (j : ℕ). Node1 j m p p q mid′ now) (z ∙ ap (λ (j : ℕ). cond (eqb j 9) 6 3) e) u);
         }
     go (no d) =
         let e : kindAt t i ≡ 9 = omega (arith, known) in
@@ -224,5 +238,14 @@ joined-node t s i h lo n6 n8 n10 = go (decLt (kindAt t i) 8)
           right = f .1;
           weight = weight-until (f .2);
           arm = λ a r {n} {m} {p} {q} {k} {old} {mid} {mid′} {now} z w v u.
-              arm-until a r (f .2) w v (subst (λ (j : ℕ). Node1 j (m - 1) (p - 1) p q mid′ now) (z ∙ ap (λ (j : ℕ). cond (eqb j 9) 6 3) e) u);
+              arm-until a r (f .2) w v (subst (λ (j : ℕ). Node1 j m p p q mid′ now) (z ∙ ap (λ (j : ℕ). cond (eqb j 9) 6 3) e) u);
         }
+
+-- The left operand of an and, a next or an until node.
+pub left-formula : (t : List ℕ) → pslRefusal t ≡ none → (i : ℕ) → i < count t → 6 ≤ kindAt t i → (kindAt t i ≡ 6 → ⊥) → (kindAt t i ≡ 10 → ⊥)
+    → IsFormula t i (leftAt t i) × (weigh addedBy (formulaAt t (leftAt t i)) ≤ weigh addedBy (formulaAt t i))
+left-formula t s i h lo n6 n10 = go (ℕ-discrete (kindAt t i) 8)
+  where
+    go : Dec (kindAt t i ≡ 8) → IsFormula t i (leftAt t i) × (weigh addedBy (formulaAt t (leftAt t i)) ≤ weigh addedBy (formulaAt t i))
+    go (yes e) = let f = is-next t s i h e in (f .0, omega (arith, weight-next (f .1)))
+    go (no d) = let j = joined-node t s i h lo n6 d n10 in (j .left, omega (arith, j .weight))

@@ -5,7 +5,7 @@ use Prim.Native.Nat.{ℕ, zero, suc, _+_, _*_}
 use native.Mathlib.Omega.{arith}
 use Rattle.logic.specs.Formula.{btrue, Formula, weak, next}
 use Rattle.psl.specs.Size.{weighB, weigh, nodeCount}
-use Rattle.translate.specs.Emitted.{adds, emittedSize}
+use Rattle.translate.specs.Emitted.{addedBy, emittedSize}
 use Rattle.translate.specs.Answer.{Delivers}
 use Rattle.translate.specs.Claims.{Claims}
 use Rattle.translate.specs.declared.Translation.{Translation}
@@ -18,13 +18,13 @@ use Rattle.translate.proofs.DeliversLaw.{size-most, was-accepted}
 one-answer : (t l : List ℕ) (r r′ : Translation) (m m′ : List ℕ) → Delivers t l r m → Delivers t l r′ m′ → (r ≡ r′) × (m ≡ m′)
 one-answer t l r r′ m m′ d e = (d .answers ∙ sym (e .answers), d .leaves ∙ sym (e .leaves))
 
--- The largest size for its nodes: next over next, the kind that adds most.
+-- The largest size for its nodes: next over next, the kind that addedBy most.
 nexts : ℕ → Formula
 nexts zero = weak btrue
 nexts (suc n) = next (nexts n)
 
 nexts-size : (n : ℕ) → (nodeCount (nexts n) ≡ n + 2) × (emittedSize (nexts n) ≡ 4 * n + 6)
-unfolding nexts weigh weighB adds
+unfolding nexts weigh weighB addedBy
 nexts-size zero = (omega arith, omega arith)
 nexts-size (suc n) = (omega (arith, nexts-size n .0), omega (arith, nexts-size n .1))
 

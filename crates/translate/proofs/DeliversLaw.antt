@@ -2,16 +2,16 @@
 use mathlib.Core.Path.{_≡_, refl, sym, ap, subst, _∙_}
 use mathlib.Core.Bool.{Bool, true, false}
 use mathlib.Core.Option.{Option, none, some}
-use mathlib.Core.List.{List, [], _++_}
+use mathlib.Core.List.{List, [], _∷_, _++_}
 use Prim.Native.Nat.{ℕ, zero, suc, _+_, _*_, _-_, _≤_, _<_}
 use native.Mathlib.Omega.{arith}
 use lib.Dec.{leb}
-use lib.ListN.{length, take, drop}
+use lib.ListN.{length, take, drop, set}
 use lib.Seq.{sets-eq, take-at}
 use borrow.Author.Tests.{le-leb, lt-leb, leb-true}
 use Rattle.trace.specs.declared.Refusal.{Refusal}
 use Rattle.trace.specs.Refusal.{refused, unless, orElse}
-use Rattle.table.specs.Node.{node, _▸_, count, kindAt}
+use Rattle.table.specs.Node.{_▸_, count, kindAt}
 use Rattle.logic.specs.Formula.{Formula}
 use Rattle.psl.specs.Size.{weigh}
 use Rattle.psl.specs.Table.{formulaOf}
@@ -20,7 +20,8 @@ use Rattle.psl.specs.Inner.Parts.{formulaAt}
 use Rattle.psl.proofs.PartLaw.{part-root}
 use Rattle.psl.proofs.TreeLaw.{tree-weight, tree-nodes}
 use Rattle.psl.proofs.AcceptedLaw.{most-nodes}
-use Rattle.translate.specs.Emitted.{adds, walk, emitted, emittedSize, mostEmitted}
+use Rattle.ltl.specs.Table.{trueNode, notNode}
+use Rattle.translate.specs.Emitted.{addedBy, walked, emitted, emittedSize, mostEmitted}
 use Rattle.translate.specs.Inner.Stored.{Walks}
 use Rattle.translate.specs.Answer.{translateRefusal, answer, Delivered, Delivers}
 use Rattle.translate.specs.declared.Translation.the-variants.{Nodes, Refused}
@@ -30,46 +31,46 @@ use Rattle.translate.proofs.EmittedLaw.{emitted-accepted}
 
 -- ── The size, by the table's kinds ──
 
-pub adds-rest : (k : ℕ) → (k ≡ 4 → ⊥) → (k ≡ 5 → ⊥) → (k ≡ 8 → ⊥) → (k ≡ 10 → ⊥) → 1 ≡ adds k
-unfolding adds
-adds-rest zero a b c d = refl
-adds-rest (suc zero) a b c d = refl
-adds-rest (suc (suc zero)) a b c d = refl
-adds-rest (suc (suc (suc zero))) a b c d = refl
-adds-rest (suc (suc (suc (suc zero)))) a b c d = absurd (a refl)
-adds-rest (suc (suc (suc (suc (suc zero))))) a b c d = absurd (b refl)
-adds-rest (suc (suc (suc (suc (suc (suc zero)))))) a b c d = refl
-adds-rest (suc (suc (suc (suc (suc (suc (suc zero))))))) a b c d = refl
-adds-rest (suc (suc (suc (suc (suc (suc (suc (suc zero)))))))) a b c d = absurd (c refl)
-adds-rest (suc (suc (suc (suc (suc (suc (suc (suc (suc zero))))))))) a b c d = refl
-adds-rest (suc (suc (suc (suc (suc (suc (suc (suc (suc (suc zero)))))))))) a b c d = absurd (d refl)
-adds-rest (suc (suc (suc (suc (suc (suc (suc (suc (suc (suc (suc k))))))))))) a b c d = refl
+pub added-rest : (k : ℕ) → (k ≡ 4 → ⊥) → (k ≡ 5 → ⊥) → (k ≡ 8 → ⊥) → (k ≡ 10 → ⊥) → 1 ≡ addedBy k
+unfolding addedBy
+added-rest zero a b c d = refl
+added-rest (suc zero) a b c d = refl
+added-rest (suc (suc zero)) a b c d = refl
+added-rest (suc (suc (suc zero))) a b c d = refl
+added-rest (suc (suc (suc (suc zero)))) a b c d = absurd (a refl)
+added-rest (suc (suc (suc (suc (suc zero))))) a b c d = absurd (b refl)
+added-rest (suc (suc (suc (suc (suc (suc zero)))))) a b c d = refl
+added-rest (suc (suc (suc (suc (suc (suc (suc zero))))))) a b c d = refl
+added-rest (suc (suc (suc (suc (suc (suc (suc (suc zero)))))))) a b c d = absurd (c refl)
+added-rest (suc (suc (suc (suc (suc (suc (suc (suc (suc zero))))))))) a b c d = refl
+added-rest (suc (suc (suc (suc (suc (suc (suc (suc (suc (suc zero)))))))))) a b c d = absurd (d refl)
+added-rest (suc (suc (suc (suc (suc (suc (suc (suc (suc (suc (suc k))))))))))) a b c d = refl
 
 -- S so far, over the first i nodes of a table of n.
 pub record SizeSoFar (t : List ℕ) (n s i : ℕ) : Type 0 where
   pub nodes : n ≡ count t
   pub within : i ≤ n
-  pub sum : s ≡ 2 + total (λ j. adds (kindAt t j)) i
+  pub sum : s ≡ 2 + total (λ j. addedBy (kindAt t j)) i
   pub low : s ≤ 2 + 4 * i
 
-pub size-next : {t : List ℕ} {n s i : ℕ} (a : ℕ) → i < n → a ≡ adds (kindAt t i) → a ≤ 4 → SizeSoFar t n s i → SizeSoFar t n (s + a) (i + 1)
+pub size-next : {t : List ℕ} {n s i : ℕ} (a : ℕ) → i < n → a ≡ addedBy (kindAt t i) → a ≤ 4 → SizeSoFar t n s i → SizeSoFar t n (s + a) (i + 1)
 unfolding total
 size-next {t} {n} {s} {i} a h e u S =
     let k : i + 1 ≡ suc i = omega arith in
     record {
       nodes = S .nodes;
       within = omega arith;
-      sum = omega (arith, S .sum, e, ap (total (λ j. adds (kindAt t j))) k);
+      sum = omega (arith, S .sum, e, ap (total (λ j. addedBy (kindAt t j))) k);
       low = omega (arith, S .low);
     }
 
 pub size-last : {t : List ℕ} {n s i : ℕ} → pslRefusal t ≡ none → n ≤ i → SizeSoFar t n s i → s ≡ emittedSize (formulaOf t)
 size-last {t} {n} {s} {i} e h S =
     let z : i ≡ count t = omega (arith, S .nodes, S .within) in
-    omega (arith, S .sum, ap (total (λ j. adds (kindAt t j))) z, tree-weight t e adds)
+    omega (arith, S .sum, ap (total (λ j. addedBy (kindAt t j))) z, tree-weight t e addedBy)
 
 -- S by the root's formula, and its bound.
-pub size-of : (t : List ℕ) → emittedSize (formulaOf t) ≡ 2 + weigh adds (formulaAt t (count t - 1))
+pub size-of : (t : List ℕ) → emittedSize (formulaOf t) ≡ 2 + weigh addedBy (formulaAt t (count t - 1))
 size-of t = ap emittedSize (part-root t)
 
 pub size-most : (t : List ℕ) → pslRefusal t ≡ none → emittedSize (formulaOf t) ≤ mostEmitted
@@ -77,16 +78,17 @@ size-most t e = size-bound (formulaOf t) (omega (arith, tree-nodes t e, most-nod
 
 -- ── What the walk leaves ──
 
-pub emits : (t : List ℕ) {l o₁ o₂ o₃ : List ℕ} {p q r : ℕ} → let f = formulaAt t (count t - 1) in
-    3 * emittedSize (formulaOf t) ≤ length l → Walks 1 (λ ns. ns ▸ node 0 0 0) 0 p l o₁ → Walks 1 (λ ns. ns ▸ node 2 0 0) p q o₁ o₂
-    → Walks (weigh adds f) (walk f p p) q r o₂ o₃ → o₃ ≡ emitted (formulaOf t) ++ drop (length (emitted (formulaOf t))) l
+-- Node 0 is true, the next one not 0, the rest the walk's.
+pub emits : (t l : List ℕ) {o₁ o₂ o₃ : List ℕ} {q r : ℕ} → let f = formulaAt t (count t - 1) in
+    3 * emittedSize (formulaOf t) ≤ length l → o₁ ≡ set (set (set l 0 0) 1 0) 2 0 → Walks 1 (λ ns. ns ▸ notNode 0) 0 q o₁ o₂
+    → Walks (weigh addedBy f) (walked f q q) q r o₂ o₃ → o₃ ≡ emitted (formulaOf t) ++ drop (length (emitted (formulaOf t))) l
 unfolding emitted
-emits t {l} {o₁} {o₂} {o₃} {p} {q} {r} room a b c =
+emits t l {o₁} {o₂} {o₃} {q} {r} room a b c =
     let f = formulaOf t in
-    let one : p ≡ 1 = omega (arith, a .next) in
-    let v = subst (λ (g : Formula). Walks (weigh adds g) (walk g p p) q r o₂ o₃) (sym (part-root t)) c in
-    let w = subst (λ (k : ℕ). Walks (weigh adds f) (walk f k k) q r o₂ o₃) one v in
-    let s = w .stores l _ (b .stores l _ (a .stores l [] (record { count = refl; is = refl }))) in
+    let one : q ≡ 1 = omega (arith, b .last) in
+    let v = subst (λ (g : Formula). Walks (weigh addedBy g) (walked g q q) q r o₂ o₃) (sym (part-root t)) c in
+    let w = subst (λ (k : ℕ). Walks (weigh addedBy f) (walked f k k) q r o₂ o₃) one v in
+    let s = w .stores l _ (b .stores l (trueNode ∷ []) (record { count = refl; is = a })) in
     let z : 0 + length (emitted f) ≡ length (emitted f) = omega arith in
     s .is ∙ sets-eq (emitted f) l 0 (omega (arith, length-emitted f)) ∙ ap (λ (k : ℕ). emitted f ++ drop k l) z
 

@@ -22,7 +22,8 @@ use Rattle.psl.proofs.CheckLaw.{psl-table}
 use Rattle.psl.proofs.PartLaw.{part-root, part-node}
 use Rattle.psl.proofs.AcceptedLaw.{some-node}
 use Rattle.ltl.specs.Check.{ltlRules, ltlRefusal}
-use Rattle.translate.specs.Emitted.{trueN, varN, notN, andN, orN, nextN, untilN, walkB, gate, literal, walk, emittedNodes, emitted, emittedSize}
+use Rattle.ltl.specs.Table.{trueNode, notNode, andNode, orNode, nextNode, untilNode}
+use Rattle.translate.specs.Emitted.{walkedB, gated, walked, emittedNodes, emitted, emittedSize}
 use Rattle.translate.proofs.WalkLaw.{length-gate, length-walkB, length-walk}
 use Rattle.translate.proofs.ArmLaw.{weightB-pos, weight-pos}
 
@@ -105,69 +106,68 @@ small h = record { low = h; sort = refl }
 
 -- ── The walk ──
 
-lastB : (b : BoolExpr) (ns : List Node) → last (walkB b ns) < length (walkB b ns)
+lastB : (b : BoolExpr) (ns : List Node) → last (walkedB b ns) < length (walkedB b ns)
 lastB b ns = omega (arith, length-walkB b ns, weightB-pos b)
 
-lastF : (f : Formula) (a r : ℕ) (ns : List Node) → last (walk f a r ns) < length (walk f a r ns)
+lastF : (f : Formula) (a r : ℕ) (ns : List Node) → last (walked f a r ns) < length (walked f a r ns)
 lastF f a r ns = omega (arith, length-walk f a r ns, weight-pos f)
 
-fineB : (b : BoolExpr) → LowB b → (ns : List Node) → Fine ns → Fine (walkB b ns)
-unfolding walkB
-fineB btrue h ns f = pass-more ltlRules trueN f (omega arith, blank, blank)
-fineB (var k) h ns f = pass-more ltlRules (varN k) f (omega arith, small h, blank)
-fineB (bnot b) h ns f = pass-more ltlRules (notN (last (walkB b ns))) (fineB b h ns f) (omega arith, named (lastB b ns), blank)
+fineB : (b : BoolExpr) → LowB b → (ns : List Node) → Fine ns → Fine (walkedB b ns)
+unfolding walkedB
+fineB btrue h ns f = pass-more ltlRules _ f (omega arith, blank, blank)
+fineB (var k) h ns f = pass-more ltlRules _ f (omega arith, small h, blank)
+fineB (bnot b) h ns f = pass-more ltlRules (notNode (last (walkedB b ns))) (fineB b h ns f) (omega arith, named (lastB b ns), blank)
 fineB (band b c) (h, g) ns f =
-    let ms = walkB b ns in
-    let ps = walkB c ms in
-    pass-more ltlRules (andN (last ms) (last ps)) (fineB c g ms (fineB b h ns f)) (omega arith, named (omega (arith, lastB b ns, length-walkB c ms)), named (lastB c ms))
+    let ms = walkedB b ns in
+    let ps = walkedB c ms in
+    pass-more ltlRules (andNode (last ms) (last ps)) (fineB c g ms (fineB b h ns f)) (omega arith, named (omega (arith, lastB b ns, length-walkB c ms)), named (lastB c ms))
 
-fine-gate : (x a r : ℕ) (ns : List Node) → x < length ns → a < length ns → r < length ns → Fine ns → Fine (gate x a r ns)
-fine-gate x a r ns hx ha hr f =
-    let ms = ns ▸ notN r in
-    let ps = ms ▸ andN x (last ms) in
-    let m = length-more ns (notN r) in
-    let p = length-more ms (andN x (last ms)) in
-    let fm = pass-more ltlRules (notN r) f (omega arith, named hr, blank) in
-    let fp = pass-more ltlRules (andN x (last ms)) fm (omega arith, named (omega arith), named (omega arith)) in
-    pass-more ltlRules (orN a (last ps)) fp (omega arith, named (omega arith), named (omega arith))
+fine-gate : (a r : ℕ) (ns : List Node) → last ns < length ns → a < length ns → r < length ns → Fine ns → Fine (gated a r ns)
+fine-gate a r ns hx ha hr f =
+    let ms = ns ▸ notNode r in
+    let ps = ms ▸ andNode (last ns) (last ms) in
+    let m = length-more ns (notNode r) in
+    let p = length-more ms (andNode (last ns) (last ms)) in
+    let fm = pass-more ltlRules (notNode r) f (omega arith, named hr, blank) in
+    let fp = pass-more ltlRules (andNode (last ns) (last ms)) fm (omega arith, named (omega arith), named (omega arith)) in
+    pass-more ltlRules (orNode a (last ps)) fp (omega arith, named (omega arith), named (omega arith))
 
-fine-literal : (b : BoolExpr) → LowB b → (a r : ℕ) (ns : List Node) → a < length ns → r < length ns → Fine ns → Fine (literal b a r ns)
+fine-literal : (b : BoolExpr) → LowB b → (a r : ℕ) (ns : List Node) → a < length ns → r < length ns → Fine ns → Fine (gated a r (walkedB b ns))
 fine-literal b h a r ns ha hr f =
-    let ms = walkB b ns in
-    fine-gate (last ms) a r ms (lastB b ns) (omega (arith, length-walkB b ns)) (omega (arith, length-walkB b ns)) (fineB b h ns f)
+    fine-gate a r (walkedB b ns) (lastB b ns) (omega (arith, length-walkB b ns)) (omega (arith, length-walkB b ns)) (fineB b h ns f)
 
-fineF : (f : Formula) → Low f → (a r : ℕ) (ns : List Node) → a < length ns → r < length ns → Fine ns → Fine (walk f a r ns)
-unfolding walk
+fineF : (f : Formula) → Low f → (a r : ℕ) (ns : List Node) → a < length ns → r < length ns → Fine ns → Fine (walked f a r ns)
+unfolding walked
 fineF (weak b) h a r ns ha hr f = fine-literal b h a r ns ha hr f
 fineF (strong b) h a r ns ha hr f = fine-literal b h a r ns ha hr f
 fineF (fnot g) h a r ns ha hr f =
-    let ms = walk g r a ns in
-    pass-more ltlRules (notN (last ms)) (fineF g h r a ns hr ha f) (omega arith, named (lastF g r a ns), blank)
+    let ms = walked g r a ns in
+    pass-more ltlRules (notNode (last ms)) (fineF g h r a ns hr ha f) (omega arith, named (lastF g r a ns), blank)
 fineF (fand g k) (h, i) a r ns ha hr f =
-    let ms = walk g a r ns in
-    let ps = walk k a r ms in
+    let ms = walked g a r ns in
+    let ps = walked k a r ms in
     let m = length-walk g a r ns in
     let p = length-walk k a r ms in
-    pass-more ltlRules (andN (last ms) (last ps)) (fineF k i a r ms (omega arith) (omega arith) (fineF g h a r ns ha hr f))
+    pass-more ltlRules (andNode (last ms) (last ps)) (fineF k i a r ms (omega arith) (omega arith) (fineF g h a r ns ha hr f))
     (omega arith, named (omega (arith, lastF g a r ns)), named (lastF k a r ms))
 fineF (until g k) (h, i) a r ns ha hr f =
-    let ms = walk g a r ns in
-    let ps = walk k a r ms in
+    let ms = walked g a r ns in
+    let ps = walked k a r ms in
     let m = length-walk g a r ns in
     let p = length-walk k a r ms in
-    pass-more ltlRules (untilN (last ms) (last ps)) (fineF k i a r ms (omega arith) (omega arith) (fineF g h a r ns ha hr f))
+    pass-more ltlRules (untilNode (last ms) (last ps)) (fineF k i a r ms (omega arith) (omega arith) (fineF g h a r ns ha hr f))
     (omega arith, named (omega (arith, lastF g a r ns)), named (lastF k a r ms))
 fineF (next g) h a r ns ha hr f =
-    let ms = walk g a r ns in
-    let ps = ms ▸ nextN (last ms) in
+    let ms = walked g a r ns in
+    let ps = ms ▸ nextNode (last ms) in
     let m = length-walk g a r ns in
-    let p = length-more ms (nextN (last ms)) in
-    fine-gate (last ps) a r ps (omega arith) (omega arith) (omega arith)
-    (pass-more ltlRules (nextN (last ms)) (fineF g h a r ns ha hr f) (omega arith, named (lastF g a r ns), blank))
+    let p = length-more ms (nextNode (last ms)) in
+    fine-gate a r ps (omega arith) (omega arith) (omega arith)
+    (pass-more ltlRules (nextNode (last ms)) (fineF g h a r ns ha hr f) (omega arith, named (lastF g a r ns), blank))
 fineF (abort g b) (h, i) a r ns ha hr f =
-    let ms = literal b a r ns in
+    let ms = gated a r (walkedB b ns) in
     let m = length-walkB b ns in
-    let p = length-gate (last (walkB b ns)) a r (walkB b ns) in
+    let p = length-gate a r (walkedB b ns) in
     fineF g h (last ms) r ms (omega arith) (omega arith) (fine-literal b i a r ns ha hr f)
 
 -- ── The table ──
@@ -176,8 +176,8 @@ pub emitted-accepted : (t : List ℕ) → pslRefusal t ≡ none → emittedSize 
 unfolding emitted
 emitted-accepted t e few =
     let f = formulaOf t in
-    let n = length-walk f 1 1 (trueN ∷ notN 0 ∷ []) in
-    nodes-pass ltlRules (emittedNodes f) (fineF f (signals-low t e) 1 1 (trueN ∷ notN 0 ∷ []) (omega arith) (omega arith) start) (omega arith) (omega arith)
+    let n = length-walk f 1 1 (trueNode ∷ notNode 0 ∷ []) in
+    nodes-pass ltlRules (emittedNodes f) (fineF f (signals-low t e) 1 1 (trueNode ∷ notNode 0 ∷ []) (omega arith) (omega arith) start) (omega arith) (omega arith)
   where
-    start : Fine (trueN ∷ notN 0 ∷ [])
-    start = pass-more ltlRules (notN 0) (pass-more ltlRules trueN (pass-none ltlRules) (omega arith, blank, blank)) (omega arith, named (omega arith), blank)
+    start : Fine (trueNode ∷ notNode 0 ∷ [])
+    start = pass-more ltlRules (notNode 0) (pass-more ltlRules trueNode (pass-none ltlRules) (omega arith, blank, blank)) (omega arith, named (omega arith), blank)

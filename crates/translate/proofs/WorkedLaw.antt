@@ -10,7 +10,7 @@ use Rattle.logic.specs.Formula.{var}
 use Rattle.psl.specs.Size.{weigh, weighB}
 use Rattle.logic.specs.Meaning.{Satisfies}
 use Rattle.psl.specs.Table.{formulaOf, partOf}
-use Rattle.translate.specs.Emitted.{walkB, walk, emitted, adds}
+use Rattle.translate.specs.Emitted.{walkedB, walked, emitted, addedBy}
 use Rattle.translate.specs.Worked.{Worked}
 
 -- Signal 0 is set in neither letter of the second trace.
@@ -21,7 +21,7 @@ unset (suc zero) h = h
 unset (suc (suc j)) h = h
 
 pub worked : Worked
-unfolding letterAt bit weigh weighB formulaOf partOf walkB walk emitted adds
+unfolding letterAt bit weigh weighB formulaOf partOf walkedB walked emitted addedBy
 worked =
     record {
       reads = refl;

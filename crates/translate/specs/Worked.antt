@@ -6,7 +6,8 @@ use Rattle.table.specs.Node.{Node, numbersOf}
 use Rattle.logic.specs.Formula.{var, Formula, strong, next, abort}
 use Rattle.psl.specs.Table.{formulaOf}
 use Rattle.logic.specs.KnownVerdicts.{Yes, No}
-use Rattle.translate.specs.Emitted.{trueN, varN, notN, andN, orN, nextN, emitted, emittedSize}
+use Rattle.translate.specs.Emitted.{emitted, emittedSize}
+use Rattle.ltl.specs.Table.{trueNode, varNode, notNode, andNode, orNode, nextNode}
 
 abbrev pub worked : Formula
 worked = abort (next (strong (var 1))) (var 0)
@@ -16,20 +17,20 @@ pslTable = 1 ∷ 1 ∷ 0 ∷ 5 ∷ 0 ∷ 0 ∷ 8 ∷ 1 ∷ 0 ∷ 1 ∷ 0 ∷ 0 �
 
 abbrev pub ltlNodes : List Node
 ltlNodes =
-    trueN
-    ∷ notN 0
-    ∷ varN 0
-    ∷ notN 1
-    ∷ andN 2 3
-    ∷ orN 1 4
-    ∷ varN 1
-    ∷ notN 1
-    ∷ andN 6 7
-    ∷ orN 5 8
-    ∷ nextN 9
-    ∷ notN 1
-    ∷ andN 10 11
-    ∷ orN 5 12
+    trueNode
+    ∷ notNode 0
+    ∷ varNode 0
+    ∷ notNode 1
+    ∷ andNode 2 3
+    ∷ orNode 1 4
+    ∷ varNode 1
+    ∷ notNode 1
+    ∷ andNode 6 7
+    ∷ orNode 5 8
+    ∷ nextNode 9
+    ∷ notNode 1
+    ∷ andNode 10 11
+    ∷ orNode 5 12
     ∷ []
 
 pub record Worked : Type 0 where

@@ -11,78 +11,86 @@ ghost use Rattle.psl.specs.Size.{weighB, weigh};
 ghost use Rattle.psl.specs.Table.{formulaOf};
 ghost use Rattle.psl.specs.Inner.Parts.{booleanAt, formulaAt};
 ghost use Rattle.psl.specs.Check.{booleanKinds, pslRefusal};
-ghost use Rattle.translate.specs.Emitted.{adds as addsS, emitted, emittedSize, walkB, walk as walkS, gate as gateS, literal as literalS};
+ghost use Rattle.ltl.specs.Table.{nextNode};
+ghost use Rattle.translate.specs.Emitted.{addedBy, emitted, emittedSize, gated, walkedB, walked};
 ghost use Rattle.translate.specs.Inner.Stored.{Room, Walks};
 ghost use Rattle.translate.specs.Answer.{Delivers};
 use table::Checked;
 use table::NodeNo;
 use trace::Refusal;
 
-// A number into a place of the list.
-fn put(out: &mut [u16], at: usize, number: u16)
-    requires { ⌜ at < length (now out) ⌝ }
-    ensures { λ _. ⌜ now (out .exit) ≡ set (now (out .entry)) at number ⌝ }
+// Node n.
+fn store(out: &mut [u16], n: NodeNo, kind: u16, left: u16, right: u16)
+    requires { ⌜ 3 * (n .0) + 2 < length (now out) ⌝ }
+    ensures { λ _. ⌜ now (out .exit) ≡ set (set (set (now (out .entry)) (3 * (n .0)) kind) (3 * (n .0) + 1) left) (3 * (n .0) + 2) right ⌝ }
 {
-    out[at] = number;
+    let at = 3 * (n.0 as usize);
+    out[at] = kind;
+    out[at + 1] = left;
+    out[at + 2] = right;
 }
 
-// A node behind those that are there; the number of the next one comes back.
+// A node behind the last one, n; its number comes back.
 fn append(out: &mut [u16], n: NodeNo, kind: u16, left: u16, right: u16) -> NodeNo
     requires { ⌜ Room 1 (n .0) (now out) ⌝ }
     ensures { λ m. ⌜ Walks 1 (λ ns. ns ▸ node kind left right) (n .0) (m .0) (now (out .entry)) (now (out .exit)) ⌝ }
 {
-    let at = 3 * (n.0 as usize);
-    put(out, at, kind);
-    put(out, at + 1, left);
-    put(out, at + 2, right);
-    NodeNo(n.0 + 1)
+    let m = NodeNo(n.0 + 1);
+    store(out, m, kind, left, right);
+    m
 }
 
-// Not r; and (x, that); or (a, that).
-fn gate(out: &mut [u16], n: NodeNo, x: NodeNo, a: NodeNo, r: NodeNo) -> NodeNo
-    requires { ⌜ Room 3 (n .0) (now out) ⌝ }
-    ensures { λ m. ⌜ Walks 3 (gateS (x .0) (a .0) (r .0)) (n .0) (m .0) (now (out .entry)) (now (out .exit)) ⌝ }
+// Not r; and (the last node x, that); or (a, that).
+fn gate(out: &mut [u16], x: NodeNo, a: NodeNo, r: NodeNo) -> NodeNo
+    requires { ⌜ Room 3 (x .0) (now out) ⌝ }
+    ensures { λ m. ⌜ Walks 3 (gated (a .0) (r .0)) (x .0) (m .0) (now (out .entry)) (now (out .exit)) ⌝ }
 {
-    let p = append(out, n, ltl::NOT, r.0, 0);
-    let q = append(out, p, ltl::AND, x.0, n.0);
-    append(out, q, ltl::OR, a.0, p.0)
+    let p = append(out, x, ltl::NOT, r.0, 0);
+    let q = append(out, p, ltl::AND, x.0, p.0);
+    append(out, q, ltl::OR, a.0, q.0)
+}
+
+// The next of the last node x, under its gate.
+fn next_gate(out: &mut [u16], x: NodeNo, a: NodeNo, r: NodeNo) -> NodeNo
+    requires { ⌜ Room 4 (x .0) (now out) ⌝ }
+    ensures { λ m. ⌜ Walks 4 (λ ns. gated (a .0) (r .0) (ns ▸ nextNode (x .0))) (x .0) (m .0) (now (out .entry)) (now (out .exit)) ⌝ }
+{
+    let y = append(out, x, ltl::NEXT, x.0, 0);
+    gate(out, y, a, r)
 }
 
 // A Boolean: its operands, then one node.
 fn walk_boolean(t: &[u16], i: NodeNo, out: &mut [u16], n: NodeNo) -> NodeNo
     requires { ⌜ (pslRefusal (now t) ≡ none) × (i .0 < count (now t)) × (kindAt (now t) (i .0) < booleanKinds)
-        × Room (weighB addsS (booleanAt (now t) (i .0))) (n .0) (now out) ⌝ }
-    ensures { λ m. ⌜ Walks (weighB addsS (booleanAt (now (t .entry)) (i .0))) (walkB (booleanAt (now (t .entry)) (i .0)))
+        × Room (weighB addedBy (booleanAt (now t) (i .0))) (n .0) (now out) ⌝ }
+    ensures { λ m. ⌜ Walks (weighB addedBy (booleanAt (now (t .entry)) (i .0))) (walkedB (booleanAt (now (t .entry)) (i .0)))
         (n .0) (m .0) (now (out .entry)) (now (out .exit)) ⌝ }
 {
     let at = 3 * (i.0 as usize);
     let kind = t[at];
-    let left = t[at + 1];
-    let right = t[at + 2];
-    match kind {
-        psl::TRUE => append(out, n, ltl::TRUE, 0, 0),
-        psl::VAR => append(out, n, ltl::VAR, left, 0),
-        psl::BNOT => {
-            let m = walk_boolean(t, NodeNo(left), out, n);
-            append(out, m, ltl::NOT, m.0 - 1, 0)
-        }
-        _ => {
-            let m = walk_boolean(t, NodeNo(left), out, n);
-            let p = walk_boolean(t, NodeNo(right), out, m);
-            append(out, p, ltl::AND, m.0 - 1, p.0 - 1)
-        }
+    let left = NodeNo(t[at + 1]);
+    let right = NodeNo(t[at + 2]);
+    // true, var: the same node in both tables
+    if kind < psl::BNOT {
+        return append(out, n, kind, left.0, 0);
     }
+    let x = walk_boolean(t, left, out, n);
+    if kind == psl::BNOT {
+        return append(out, x, ltl::NOT, x.0, 0);
+    }
+    let y = walk_boolean(t, right, out, x);
+    append(out, y, ltl::AND, x.0, y.0)
 }
 
 // A Boolean under its gate: weak, strong, and an abort's condition.
 fn literal(t: &[u16], i: NodeNo, a: NodeNo, r: NodeNo, out: &mut [u16], n: NodeNo) -> NodeNo
     requires { ⌜ (pslRefusal (now t) ≡ none) × (i .0 < count (now t)) × (kindAt (now t) (i .0) < booleanKinds)
-        × Room (weighB addsS (booleanAt (now t) (i .0)) + 3) (n .0) (now out) ⌝ }
-    ensures { λ m. ⌜ Walks (weighB addsS (booleanAt (now (t .entry)) (i .0)) + 3) (literalS (booleanAt (now (t .entry)) (i .0)) (a .0) (r .0))
+        × Room (weighB addedBy (booleanAt (now t) (i .0)) + 3) (n .0) (now out) ⌝ }
+    ensures { λ m. ⌜ Walks (weighB addedBy (booleanAt (now (t .entry)) (i .0)) + 3) (λ ns. gated (a .0) (r .0) (walkedB (booleanAt (now (t .entry)) (i .0)) ns))
         (n .0) (m .0) (now (out .entry)) (now (out .exit)) ⌝ }
 {
-    let m = walk_boolean(t, i, out, n);
-    gate(out, m, NodeNo(m.0 - 1), a, r)
+    let x = walk_boolean(t, i, out, n);
+    gate(out, x, a, r)
 }
 
 // The LTL kind of an and or an until.
@@ -99,8 +107,8 @@ fn joining(kind: u16) -> u16
 // A formula, with the numbers of accept a and reject r.
 fn walk(t: &[u16], i: NodeNo, a: NodeNo, r: NodeNo, out: &mut [u16], n: NodeNo) -> NodeNo
     requires { ⌜ (pslRefusal (now t) ≡ none) × (i .0 < count (now t)) × (booleanKinds ≤ kindAt (now t) (i .0))
-        × Room (weigh addsS (formulaAt (now t) (i .0))) (n .0) (now out) ⌝ }
-    ensures { λ m. ⌜ Walks (weigh addsS (formulaAt (now (t .entry)) (i .0))) (walkS (formulaAt (now (t .entry)) (i .0)) (a .0) (r .0))
+        × Room (weigh addedBy (formulaAt (now t) (i .0))) (n .0) (now out) ⌝ }
+    ensures { λ m. ⌜ Walks (weigh addedBy (formulaAt (now (t .entry)) (i .0))) (walked (formulaAt (now (t .entry)) (i .0)) (a .0) (r .0))
         (n .0) (m .0) (now (out .entry)) (now (out .exit)) ⌝ }
 {
     let at = 3 * (i.0 as usize);
@@ -113,29 +121,27 @@ fn walk(t: &[u16], i: NodeNo, a: NodeNo, r: NodeNo, out: &mut [u16], n: NodeNo) 
     }
     match kind {
         psl::NOT => {
-            let m = walk(t, left, r, a, out, n);
-            append(out, m, ltl::NOT, m.0 - 1, 0)
-        }
-        psl::NEXT => {
-            let m = walk(t, left, a, r, out, n);
-            let p = append(out, m, ltl::NEXT, m.0 - 1, 0);
-            gate(out, p, m, a, r)
+            let x = walk(t, left, r, a, out, n);
+            append(out, x, ltl::NOT, x.0, 0)
         }
         psl::ABORT => {
-            let m = literal(t, right, a, r, out, n);
-            walk(t, left, NodeNo(m.0 - 1), r, out, m)
+            let x = literal(t, right, a, r, out, n);
+            walk(t, left, x, r, out, x)
         }
         _ => {
-            let m = walk(t, left, a, r, out, n);
-            let p = walk(t, right, a, r, out, m);
-            append(out, p, joining(kind), m.0 - 1, p.0 - 1)
+            let x = walk(t, left, a, r, out, n);
+            if kind == psl::NEXT {
+                return next_gate(out, x, a, r);
+            }
+            let y = walk(t, right, a, r, out, x);
+            append(out, y, joining(kind), x.0, y.0)
         }
     }
 }
 
 // How many nodes a PSL node of a kind adds to the emitted table.
 fn adds(kind: u16) -> usize
-    ensures { λ n. ⌜ (n ≡ addsS kind) × (n ≤ 4) ⌝ }
+    ensures { λ n. ⌜ (n ≡ addedBy kind) × (n ≤ 4) ⌝ }
 {
     match kind {
         psl::WEAK => 3,
@@ -167,9 +173,10 @@ fn emit(t: &[u16], out: &mut [u16])
     ensures { λ _. ⌜ now (out .exit) ≡ emitted (formulaOf (now (t .entry))) ++ drop (length (emitted (formulaOf (now (t .entry))))) (now (out .entry)) ⌝ }
 {
     let root = NodeNo((t.len() / 3 - 1) as u16);
-    let one = append(out, NodeNo(0), ltl::TRUE, 0, 0);
-    let two = append(out, one, ltl::NOT, 0, 0);
-    walk(t, root, one, one, out, two);
+    let zero = NodeNo(0);
+    store(out, zero, ltl::TRUE, 0, 0);
+    let one = append(out, zero, ltl::NOT, 0, 0);
+    walk(t, root, one, one, out, one);
 }
 
 pub enum Translation {

@@ -11,18 +11,18 @@ use Rattle.psl.specs.Size.{weigh}
 use Rattle.psl.specs.Inner.Parts.{formulaAt}
 use Rattle.psl.specs.Check.{pslRefusal}
 use Rattle.psl.proofs.AcceptedLaw.{Boolean, Formula, is-not, is-next, is-abort}
-use Rattle.translate.specs.Emitted.{adds}
+use Rattle.translate.specs.Emitted.{addedBy}
 use Rattle.translate.specs.Inner.Stored.{Room}
-use Rattle.translate.proofs.ArmLaw.{weight-not, weight-next, weight-abort, some-formula, literal-node, Joined, joined-node, arm-not, arm-next, arm-abort}
+use Rattle.translate.proofs.ArmLaw.{weight-not, weight-next, weight-abort, literal-node, left-formula, Joined, joined-node, arm-not, arm-next, arm-abort}
 use borrow.Fn.Kinds.{In}
 use borrow.Fn.PlainCycle.{Measures, is, falls, and}
 use Rattle.translate.proofs.walk.Reads.{Pre, Post}
 use Rattle.translate.proofs.walk.Kinds.{ps}
 use Rattle.translate.proofs.+walk.Lts-walk as lts
 use Rattle.translate.proofs.append.Reads as append-reads
-use Rattle.translate.proofs.gate.Reads as gate-reads
 use Rattle.translate.proofs.joining.Reads as joining-reads
 use Rattle.translate.proofs.literal.Reads as literal-reads
+use Rattle.translate.proofs.next_gate.Reads as next-gate-reads
 use Rattle.translate.proofs.+walk.{statement}
 use Rattle.translate.proofs.+walk.Tie.{close}
 
@@ -45,43 +45,39 @@ module _ (own : ℕ) where
     Post,
     append-reads.Asked,
     append-reads.Learnt,
-    gate-reads.Asked,
-    gate-reads.Learnt,
+    next-gate-reads.Asked,
+    next-gate-reads.Learnt,
     joining-reads.Asked,
     joining-reads.Learnt,
   )
 
   -- ── Places ──
 
-  -- Where the node's three numbers are read.
+  -- Where the node's three numbers are read, and where it is no weak or strong.
   abbrev Read : Type 0
   Read = lts.After-shared-slice-known4 claims At Post
 
   abbrev start : Read → lts.Start claims At Post
   start n = n .before .before .before .before .before .before
 
-  abbrev arm : lts.Else1 claims At Post → Read
-  arm e = e .before
+  abbrev read : lts.Else1 claims At Post → Read
+  read e = e .before
 
-  -- In the arms of not and next the operand's walk, and the node put on it; in that of abort the condition's; in that of and and until
-  -- the left and the right operand's.
-  abbrev under-not : lts.After-struct-known2 claims At Post → lts.After-walk claims At Post
-  under-not c = c .before .before .before .before
+  -- The walk under a not, an abort's condition, and in the last arm the walks of the left and of the right operand.
+  abbrev under-not : lts.After-append-arg claims At Post → lts.After-walk claims At Post
+  under-not c = c .before .before .before
 
-  abbrev under-next : lts.After-struct-known3 claims At Post → lts.After-walk2 claims At Post
-  under-next c = c .before .before .before .before
-
-  abbrev next-put : lts.After-gate-arg claims At Post → lts.After-append2 claims At Post
-  next-put c = c .before .before .before
-
-  abbrev condition : lts.After-struct-known4 claims At Post → lts.After-literal2 claims At Post
+  abbrev condition : lts.After-walk-arg2 claims At Post → lts.After-literal2 claims At Post
   condition c = c .before .before .before
 
-  abbrev right : lts.After-joining claims At Post → lts.After-walk5 claims At Post
-  right c = c .before .before .before .before
+  abbrev left : lts.After-slice-known7 claims At Post → lts.After-walk3 claims At Post
+  left c = c .before .before
 
-  abbrev left : lts.After-walk-arg5 claims At Post → lts.After-walk4 claims At Post
-  left c = c .before .before .before
+  abbrev right : lts.After-append-arg2 claims At Post → lts.After-walk4 claims At Post
+  right c = c .before .before .before
+
+  abbrev rest : lts.After-walk3 claims At Post → lts.At-match-rest claims At Post
+  rest w = w .before .before
 
   -- ── The node ──
 
@@ -92,7 +88,7 @@ module _ (own : ℕ) where
   node n = start n .args .i .0
 
   abbrev weight : Read → ℕ
-  weight n = weigh adds (formulaAt (table n) (node n))
+  weight n = weigh addedBy (formulaAt (table n) (node n))
 
   -- The numbers of accept and reject.
   abbrev accept : Read → ℕ
@@ -120,9 +116,11 @@ module _ (own : ℕ) where
       → (j < own) × ((pslRefusal (table n) ≡ none) × (j < count (table n)) × (4 ≤ kindAt (table n) j) × Room v m now)
   formula n f r = let P = start n .pre in (omega (arith, f .0, P .0), (P .1 .0, omega (arith, f .0, P .1 .1), f .1, r))
 
-  -- In the last arm the node is an and or an until.
-  last-arm : (k : lts.At-match-rest claims At Post) → let n = arm (k .before) in Joined (table n) (node n)
-  last-arm k = law (arm (k .before)) joined-node (omega arith) (λ e. omega arith) (λ e. omega arith) (λ e. omega arith)
+  -- In the last arm, below the test for next, the node is an and or an until.
+  joined : (k : lts.Else2 claims At Post) → let n = read (rest (left (k .before)) .before) in Joined (table n) (node n)
+  joined k =
+      let n = read (rest (left (k .before)) .before) in
+      law n joined-node (omega arith) (λ e. omega arith) (λ e. omega arith) (λ e. omega arith)
 
   -- ── The needs, in the order of the code, the arms' answers last ──
 
@@ -151,90 +149,75 @@ module _ (own : ℕ) where
       law n literal-node (omega arith) (omega arith) .arm (accept n) (reject n) (w .literal .ensures))
       -- not
       (λ c κs.
-      let n = arm (c .before .before) in
+      let n = read (c .before .before) in
       let f = law n is-not (omega arith) in
       formula n (f .0) (room n (omega arith) (omega (arith, weight-not (f .1)))))
-      (λ c. some-formula _ _ _ (under-not c .walk .ensures))
       (λ c κs.
       let w = under-not c in
-      let n = arm (w .before .before .before) in
-      room n (omega arith) (omega (arith, weight-not (law n is-not (omega arith) .1), w .walk .ensures .next)))
-      -- next
-      (λ c κs.
-      let n = arm (c .before .before) in
-      let f = law n is-next (omega arith) in
-      formula n (f .0) (room n (omega arith) (omega (arith, weight-next (f .1)))))
-      (λ c. some-formula _ _ _ (under-next c .walk2 .ensures))
-      (λ c κs.
-      let w = under-next c in
-      let n = arm (w .before .before .before) in
-      room n (omega arith) (omega (arith, weight-next (law n is-next (omega arith) .1), w .walk2 .ensures .next)))
-      (λ c κs.
-      let a = next-put c in
-      let w = under-next (a .before) in
-      let n = arm (w .before .before .before) in
-      room n (omega arith) (omega (arith, weight-next (law n is-next (omega arith) .1), w .walk2 .ensures .next, a .append2 .ensures .next)))
+      let n = read (w .before .before .before) in
+      room n (omega arith) (omega (arith, weight-not (law n is-not (omega arith) .1), w .walk .ensures .last)))
       -- abort
       (λ c κs.
-      let n = arm (c .before .before) in
+      let n = read (c .before .before) in
       let f = law n is-abort (omega arith) in
       boolean n (f .1) (room n (omega arith) (omega (arith, weight-abort (f .2)))))
-      (λ c. omega (arith, condition c .literal2 .ensures .next))
       (λ c κs.
-      let w = condition (c .before) in
-      let n = arm (w .before .before .before) in
+      let w = condition c in
+      let n = read (w .before .before .before) in
       let f = law n is-abort (omega arith) in
-      formula n (f .0) (room n (omega arith) (omega (arith, weight-abort (f .2), w .literal2 .ensures .next))))
+      formula n (f .0) (room n (omega arith) (omega (arith, weight-abort (f .2), w .literal2 .ensures .last))))
+      -- the left operand of next, and, until
+      (λ c κs.
+      let n = read (c .before .before) in
+      let f = law n left-formula (omega arith) (λ e. omega arith) (λ e. omega arith) in
+      formula n (f .0) (room n (omega arith) (omega (arith, f .1))))
+      -- next
+      (λ c κs.
+      let w = left (c .before .before) in
+      let n = read (rest w .before) in
+      room n (omega arith) (omega (arith, weight-next (law n is-next (omega arith) .1), w .walk3 .ensures .last)))
+      (λ c. search needs)
+      (λ c.
+      let g = c .before .before in
+      let w = left (g .before .before .before) in
+      let n = read (rest w .before) in
+      arm-next (accept n) (reject n) (law n is-next (omega arith) .1) (w .walk3 .ensures) (g .next-gate .ensures))
       -- and, until
       (λ c κs.
       let k = c .before in
-      let n = arm (k .before) in
-      let j = last-arm k in
-      formula n (j .left) (room n (omega arith) (omega (arith, j .weight))))
-      (λ c κs.
-      let w = left c in
-      let k = w .before .before in
-      let n = arm (k .before) in
-      let j = last-arm k in
-      formula n (j .right) (room n (omega arith) (omega (arith, j .weight, w .walk4 .ensures .next))))
+      let w = left (k .before) in
+      let n = read (rest w .before) in
+      let j = joined k in
+      formula n (j .right) (room n (omega arith) (omega (arith, j .weight, w .walk3 .ensures .last))))
       (λ c κs. search needs)
-      (λ c. some-formula _ _ _ (left (right (c .before) .before) .walk4 .ensures))
-      (λ c. some-formula _ _ _ (right (c .before .before) .walk5 .ensures))
       (λ c κs.
-      let v = right (c .before .before) in
-      let w = left (v .before) in
-      let k = w .before .before in
-      let n = arm (k .before) in
-      room n (omega arith) (omega (arith, last-arm k .weight, w .walk4 .ensures .next, v .walk5 .ensures .next)))
-      -- what not, next, abort, and and until store
+      let v = right (c .before) in
+      let k = v .before .before in
+      let w = left (k .before) in
+      let n = read (rest w .before) in
+      room n (omega arith) (omega (arith, joined k .weight, w .walk3 .ensures .last, v .walk4 .ensures .last)))
+      -- what not, abort, and and until store
       (λ c. search needs)
       (λ c.
       let a = c .before .before in
       let w = under-not (a .before) in
-      let n = arm (w .before .before .before) in
+      let n = read (w .before .before .before) in
       arm-not (accept n) (reject n) (law n is-not (omega arith) .1) (w .walk .ensures) (a .append .ensures))
       (λ c. search needs)
       (λ c.
-      let g = c .before .before in
-      let a = next-put (g .before) in
-      let w = under-next (a .before) in
-      let n = arm (w .before .before .before) in
-      arm-next (accept n) (reject n) (law n is-next (omega arith) .1) (w .walk2 .ensures) (a .append2 .ensures) (g .gate .ensures))
-      (λ c. search needs)
-      (λ c.
       let v = c .before .before in
-      let w = condition (v .before .before) in
-      let n = arm (w .before .before .before) in
-      arm-abort (accept n) (reject n) (law n is-abort (omega arith) .2) (w .literal2 .ensures) (v .walk3 .ensures))
+      let w = condition (v .before) in
+      let n = read (w .before .before .before) in
+      arm-abort (accept n) (reject n) (law n is-abort (omega arith) .2) (w .literal2 .ensures) (v .walk2 .ensures))
       (λ c. search needs)
       (λ c.
       let a = c .before .before in
-      let q = a .before .before .before in
-      let v = right q in
-      let w = left (v .before) in
-      let k = w .before .before in
-      let n = arm (k .before) in
-      last-arm k .arm (accept n) (reject n) (q .joining .ensures) (w .walk4 .ensures) (v .walk5 .ensures) (a .append3 .ensures))
+      let q = a .before in
+      let v = right (q .before) in
+      let k = v .before .before in
+      let w = left (k .before) in
+      let n = read (rest w .before) in
+      joined k .arm (accept n) (reject n) (q .joining .ensures) (w .walk3 .ensures) (v .walk4 .ensures) (a .append2 .ensures))
 
 pub +walk-spec : {M : Type 1} → statement M
 +walk-spec = close μ (λ own. met own)

@@ -10,10 +10,10 @@ use Rattle.table.specs.Node.{count, kindAt}
 use Rattle.psl.specs.Size.{weighB}
 use Rattle.psl.specs.Inner.Parts.{booleanAt}
 use Rattle.psl.specs.Check.{pslRefusal}
-use Rattle.psl.proofs.AcceptedLaw.{Boolean, is-true, is-var, is-bnot, is-band}
-use Rattle.translate.specs.Emitted.{adds}
+use Rattle.psl.proofs.AcceptedLaw.{Boolean, is-bnot, is-band}
+use Rattle.translate.specs.Emitted.{addedBy}
 use Rattle.translate.specs.Inner.Stored.{Room}
-use Rattle.translate.proofs.ArmLaw.{weight-true, weight-var, weight-bnot, weight-band, some-boolean, arm-true, arm-var, arm-bnot, arm-band}
+use Rattle.translate.proofs.ArmLaw.{weight-bnot, weight-band, leaf-node, left-boolean, arm-bnot, arm-band}
 use borrow.Fn.Kinds.{In}
 use borrow.Fn.PlainCycle.{Measures, is, falls, and}
 use Rattle.translate.proofs.walk_boolean.Reads.{Pre, Post}
@@ -39,22 +39,22 @@ module _ (own : ℕ) where
 
   -- ── Places ──
 
-  -- Where the node's three numbers are read; each arm begins here.
+  -- Where the node's three numbers are read.
   abbrev Read : Type 0
   Read = lts.After-shared-slice-known4 claims At Post
 
   abbrev start : Read → lts.Start claims At Post
   start n = n .before .before .before .before .before .before
 
-  -- The operand's walk in the arm of not; the left and the right one's in the arm of and.
-  abbrev inner : lts.After-struct-known2 claims At Post → lts.After-walk-boolean claims At Post
-  inner c = c .before .before .before .before
+  -- The walks of the left and of the right operand.
+  abbrev left : lts.After-slice-known3 claims At Post → lts.After-walk-boolean claims At Post
+  left c = c .before .before
 
-  abbrev right : lts.After-struct-known3 claims At Post → lts.After-walk-boolean3 claims At Post
-  right c = c .before .before .before .before
+  abbrev right : lts.After-append-arg3 claims At Post → lts.After-walk-boolean2 claims At Post
+  right c = c .before .before .before
 
-  abbrev left : lts.After-walk-boolean-arg3 claims At Post → lts.After-walk-boolean2 claims At Post
-  left c = c .before .before .before
+  abbrev read : lts.After-walk-boolean claims At Post → Read
+  read w = w .before .before .before
 
   -- ── The node ──
 
@@ -65,7 +65,7 @@ module _ (own : ℕ) where
   node n = start n .args .i .0
 
   abbrev weight : Read → ℕ
-  weight n = weighB adds (booleanAt (table n) (node n))
+  weight n = weighB addedBy (booleanAt (table n) (node n))
 
   -- A law of an accepted table's nodes, for this one.
   abbrev law : {R : List ℕ → ℕ → Type 0} (n : Read)
@@ -82,11 +82,11 @@ module _ (own : ℕ) where
       → (j < own) × ((pslRefusal (table n) ≡ none) × (j < count (table n)) × (kindAt (table n) j < 4) × Room v m now)
   operand n b r = let P = start n .pre in (omega (arith, b .0, P .0), (P .1 .0, omega (arith, b .0, P .1 .1), b .1, r))
 
-  -- In the last arm the kind is that of an and.
-  last-arm : (k : lts.At-match-rest claims At Post) → let n = k .before in kindAt (table n) (node n) ≡ 3
-  last-arm k = omega arith
+  -- Below both tests the node is an and.
+  last-kind : (k : lts.Else2 claims At Post) → let n = read (left (k .before)) in kindAt (table n) (node n) ≡ 3
+  last-kind k = omega arith
 
-  -- ── The needs, in the order of the code, the arms' answers last ──
+  -- ── The needs, in the order of the code ──
 
   met : {M : Type 1} → lts.Closed claims At Post M
   met = lts.spec claims At Post
@@ -101,57 +101,46 @@ module _ (own : ℕ) where
       (λ c. search needs)
       (λ c. search needs)
       (λ c. search needs)
-      -- true, a signal
-      (λ c κs. let n = c .before .before in room n (omega arith) (omega (arith, weight-true (law n is-true (omega arith)))))
-      (λ c κs. let n = c .before .before in room n (omega arith) (omega (arith, weight-var (law n is-var (omega arith) .1))))
-      -- not
+      -- true, var
+      (λ c κs. let n = c .before .before in room n (omega arith) (omega (arith, law n leaf-node (omega arith) .weight)))
+      (λ c. search needs)
+      (λ c. let a = c .before .before in law (a .before .before .before) leaf-node (omega arith) .arm (a .append .ensures))
+      -- the left operand
       (λ c κs.
       let n = c .before .before in
-      let b = law n is-bnot (omega arith) in
-      operand n (b .0) (room n (omega arith) (omega (arith, weight-bnot (b .1)))))
-      (λ c. some-boolean _ (inner c .walk-boolean .ensures))
+      let b = law n left-boolean (omega arith) (omega arith) in
+      operand n (b .0) (room n (omega arith) (omega (arith, b .1))))
+      -- bnot
       (λ c κs.
-      let w = inner c in
-      let n = w .before .before .before in
-      room n (omega arith) (omega (arith, weight-bnot (law n is-bnot (omega arith) .1), w .walk-boolean .ensures .next)))
-      -- and
+      let w = left (c .before .before) in
+      let n = read w in
+      room n (omega arith) (omega (arith, weight-bnot (law n is-bnot (omega arith) .1), w .walk-boolean .ensures .last)))
+      (λ c. search needs)
+      (λ c.
+      let a = c .before .before in
+      let w = left (a .before .before .before) in
+      arm-bnot (law (read w) is-bnot (omega arith) .1) (w .walk-boolean .ensures) (a .append2 .ensures))
+      -- band
       (λ c κs.
       let k = c .before in
-      let n = k .before in
-      let b = law n is-band (last-arm k) in
-      operand n (b .0) (room n (omega arith) (omega (arith, weight-band (b .2)))))
+      let w = left (k .before) in
+      let n = read w in
+      let b = law n is-band (last-kind k) in
+      operand n (b .1) (room n (omega arith) (omega (arith, weight-band (b .2), w .walk-boolean .ensures .last))))
       (λ c κs.
-      let w = left c in
-      let k = w .before .before in
-      let n = k .before in
-      let b = law n is-band (last-arm k) in
-      operand n (b .1) (room n (omega arith) (omega (arith, weight-band (b .2), w .walk-boolean2 .ensures .next))))
-      (λ c. some-boolean _ (left (right c .before) .walk-boolean2 .ensures))
-      (λ c. some-boolean _ (right (c .before) .walk-boolean3 .ensures))
-      (λ c κs.
-      let v = right (c .before) in
-      let w = left (v .before) in
-      let k = w .before .before in
-      let n = k .before in
+      let v = right c in
+      let k = v .before .before in
+      let w = left (k .before) in
+      let n = read w in
       room n (omega arith)
-      (omega (arith, weight-band (law n is-band (last-arm k) .2), w .walk-boolean2 .ensures .next, v .walk-boolean3 .ensures .next)))
-      -- what true, a signal, not and and store
-      (λ c. search needs)
-      (λ c. let a = c .before .before in arm-true (law (a .before .before .before) is-true (omega arith)) (a .append .ensures))
-      (λ c. search needs)
-      (λ c. let a = c .before .before in arm-var (law (a .before .before .before) is-var (omega arith) .1) (a .append2 .ensures))
+      (omega (arith, weight-band (law n is-band (last-kind k) .2), w .walk-boolean .ensures .last, v .walk-boolean2 .ensures .last)))
       (λ c. search needs)
       (λ c.
       let a = c .before .before in
-      let w = inner (a .before) in
-      arm-bnot (law (w .before .before .before) is-bnot (omega arith) .1) (w .walk-boolean .ensures) (a .append3 .ensures))
-      (λ c. search needs)
-      (λ c.
-      let a = c .before .before in
-      let v = right (a .before .before) in
-      let w = left (v .before) in
-      let k = w .before .before in
-      arm-band (law (k .before) is-band (last-arm k) .2) (w .walk-boolean2 .ensures) (v .walk-boolean3 .ensures) (a .append4 .ensures))
+      let v = right (a .before) in
+      let k = v .before .before in
+      let w = left (k .before) in
+      arm-band (law (read w) is-band (last-kind k) .2) (w .walk-boolean .ensures) (v .walk-boolean2 .ensures) (a .append3 .ensures))
 
 pub +walk-boolean-spec : {M : Type 1} → statement M
 +walk-boolean-spec = close μ (λ own. met own)

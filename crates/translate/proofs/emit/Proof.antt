@@ -15,10 +15,10 @@ start n = n .before .before
 abbrev table : tie.After-slice-known → List ℕ
 table n = start n .args .t .now
 
-abbrev second : tie.After-walk-arg → tie.After-append2
+abbrev second : tie.After-walk-arg → tie.After-append
 second c = c .before .before .before
 
-abbrev first : tie.After-append2 → tie.After-append
+abbrev first : tie.After-append → tie.After-store
 first b = b .before .before .before .before
 
 pub emit-spec : {M : Type 1} → statement M
@@ -32,16 +32,15 @@ emit-spec =
     (λ c κs. search needs)
     (λ c κs.
     let b = second c in
-    let a = first b in
-    let n = a .before .before in
+    let n = first b .before .before in
     let t = table n in
     let e = start n .pre .0 in (
       e,
       omega (arith, some-node t e),
       root-formula t e,
       record {
-        space = omega (arith, size-of t, start n .pre .1, a .append .ensures .next, b .append2 .ensures .next);
-        fits = omega (arith, size-of t, size-most t e, a .append .ensures .next, b .append2 .ensures .next);
+        space = omega (arith, size-of t, start n .pre .1, b .append .ensures .last);
+        fits = omega (arith, size-of t, size-most t e, b .append .ensures .last);
       },
     ))
     (λ c. search needs)
@@ -50,4 +49,4 @@ emit-spec =
     let b = second (w .before) in
     let a = first b in
     let n = a .before .before in
-    emits (table n) (start n .pre .1) (a .append .ensures) (b .append2 .ensures) (w .walk .ensures)))
+    emits (table n) (start n .args .out .now) (start n .pre .1) (a .store .ensures) (b .append .ensures) (w .walk .ensures)))
