@@ -1,16 +1,16 @@
 -- `first_refused` passes the nodes that are not refused, and stops at the first that is.
 use borrow.Author.Needs.{needs}
 use Prim.Native.Nat.{ℕ, _-_, _≤_, _<_}
-use mathlib.Core.Path.{_≡_, sym, _∙_, subst}
+use mathlib.Core.Path.{_≡_, subst}
 use mathlib.Core.Option.{none}
 use mathlib.Core.List.{List}
 use native.Mathlib.Omega.{arith}
-use borrow.Author.Tests.{not-true, not-false}
 use Rattle.table.specs.Node.{count, kindAt}
 use Rattle.table.specs.Rules.{shapeOf}
 use Rattle.table.specs.Check.{refusalAt}
 use Rattle.trace.specs.Refusal.{lowest}
-use Rattle.table.proofs.CheckLaw.{Fast, fast-none, fast-some, unknown-some, lowest-zero, lowest-next}
+use Rattle.table.proofs.CheckLaw.{Fast, lowest-zero, lowest-next}
+use Rattle.table.proofs.FirstLaw.{node-passed, stops-unknown, stops-unfit, stops-end}
 use Rattle.table.proofs.PlaceLaw.{left-coded, right-coded}
 use Rattle.ltl.specs.Check.{ltlRules}
 use Rattle.ltl.proofs.CheckLaw.{rules-coded}
@@ -80,7 +80,7 @@ shared-slice-read-r c = search needs
 returns : tie.Need-returns Inv-loop μ-loop
 returns c =
     let lp = c .before .before .before .before .before in
-    record { passed = lp .loop .inv .1; within = lp .loop .inv .0; stopped = λ _. unknown-some ltlRules (table lp) (lp .loop .i) (c .if1 .taken) }
+    stops-unknown ltlRules (table lp) (lp .loop .i) (lp .loop .inv .0) (lp .loop .inv .1) (c .if1 .taken)
 
 cast-at : tie.Need-cast-at Inv-loop μ-loop
 cast-at c = omega (arith, low-kind c)
@@ -107,7 +107,7 @@ returns-2 : tie.Need-returns-2 Inv-loop μ-loop
 returns-2 c =
     let p = c .before in
     let lp = turn (p .before) in
-    record { passed = lp .loop .inv .1; within = lp .loop .inv .0; stopped = λ _. fast-some ltlRules (table lp) (lp .loop .i) (sym (low p) ∙ not-true _ (c .if2 .taken)) }
+    stops-unfit ltlRules (table lp) (lp .loop .i) (lp .loop .inv .0) (lp .loop .inv .1) (low p) (c .if2 .taken)
 
 add-i : tie.Need-add-i Inv-loop μ-loop
 add-i c = search needs
@@ -119,14 +119,14 @@ loop-again : tie.Need-loop-again Inv-loop μ-loop
 loop-again c =
     let p = c .before in
     let lp = turn (p .before) in
-    (omega arith, lowest-next (refusalAt ltlRules (table lp)) (lp .loop .i) (lp .loop .inv .1) (fast-none ltlRules (table lp) (lp .loop .i) (low-kind (p .before)) (sym (low p) ∙ not-false _ (c .if2 .left))))
+    (omega arith, lowest-next (refusalAt ltlRules (table lp)) (lp .loop .i) (lp .loop .inv .1) (node-passed ltlRules (table lp) (lp .loop .i) (low-kind (p .before)) (low p) (c .if2 .left)))
 
 returns-3 : tie.Need-returns-3 Inv-loop μ-loop
 returns-3 c =
     let lp = c .before in
     let t = table lp in
     let e : lp .loop .i ≡ count t = omega arith in
-    record { passed = subst (λ (m : ℕ). lowest (refusalAt ltlRules t) m ≡ none) e (lp .loop .inv .1); within = omega arith; stopped = λ h. absurd (omega arith) }
+    stops-end ltlRules t (subst (λ (m : ℕ). lowest (refusalAt ltlRules t) m ≡ none) e (lp .loop .inv .1))
 
 pub first-refused-spec : {M : Type 1} → statement M
 first-refused-spec =

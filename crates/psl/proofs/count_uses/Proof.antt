@@ -1,17 +1,17 @@
 -- `count_uses` passes the nodes that are not refused and counts their operands; it stops at the first that is refused.
 use borrow.Author.Needs.{needs}
 use Prim.Native.Nat.{ℕ, _-_, _≤_, _<_}
-use mathlib.Core.Path.{_≡_, refl, sym, subst, _∙_}
+use mathlib.Core.Path.{_≡_, refl, subst, _∙_}
 use mathlib.Core.Option.{none}
 use mathlib.Core.List.{List}
 use native.Mathlib.Omega.{arith}
 use lib.ListN.{length, getD}
-use borrow.Author.Tests.{not-true, not-false}
 use Rattle.table.specs.Node.{count, kindAt}
 use Rattle.table.specs.Rules.{Use, shapeOf}
 use Rattle.table.specs.Check.{refusalAt}
 use Rattle.table.specs.Inner.Place.{coded, codedRules, mostKinds}
-use Rattle.table.proofs.CheckLaw.{Fast, fast-none, fast-some, unknown-some, sized}
+use Rattle.table.proofs.CheckLaw.{Fast, sized}
+use Rattle.table.proofs.FirstLaw.{node-passed, stops-unknown, stops-unfit, stops-end}
 use Rattle.table.proofs.PlaceLaw.{left-coded, right-coded}
 use Rattle.psl.specs.Check.{pslRules}
 use Rattle.psl.specs.Inner.Counts.{Tallied}
@@ -60,7 +60,7 @@ fine : (e : tie.Else2 Inv-loop μ-loop) → let lp = turn (read e) in refusalAt 
 fine e =
     let u = read e in
     let lp = turn u in
-    fast-none pslRules (table lp) (lp .loop .i) (low-kind u) (sym (fits (e .before)) ∙ not-false _ (e .if2 .left))
+    node-passed pslRules (table lp) (lp .loop .i) (low-kind u) (fits (e .before)) (e .if2 .left)
 
 inside : (u : tie.Else1 Inv-loop μ-loop) → turn u .loop .i < count (table (turn u))
 inside u = omega arith
@@ -108,7 +108,7 @@ returns : tie.Need-returns Inv-loop μ-loop
 returns c =
     let lp = c .before .before .before .before .before in
     let I = lp .loop .inv in
-    (record { passed = I .2 .passed; within = I .0; stopped = λ _. unknown-some pslRules (table lp) (lp .loop .i) (c .if1 .taken) }, I .2)
+    (stops-unknown pslRules (table lp) (lp .loop .i) (I .0) (I .2 .passed) (c .if1 .taken), I .2)
 
 cast-at : tie.Need-cast-at Inv-loop μ-loop
 cast-at c = omega (arith, low-kind c)
@@ -139,7 +139,7 @@ returns-2 c =
     let p = c .before in
     let lp = turn (p .before) in
     let I = lp .loop .inv in
-    (record { passed = I .2 .passed; within = I .0; stopped = λ _. fast-some pslRules (table lp) (lp .loop .i) (sym (fits p) ∙ not-true _ (c .if2 .taken)) }, I .2)
+    (stops-unfit pslRules (table lp) (lp .loop .i) (I .0) (I .2 .passed) (fits p) (c .if2 .taken), I .2)
 
 count-place-requires : tie.Need-count-place-requires Inv-loop μ-loop
 count-place-requires c κs =
@@ -181,7 +181,7 @@ returns-3 c =
     let I = lp .loop .inv in
     let z : lp .loop .i ≡ count t = omega arith in
     let T = subst (λ (m : ℕ). Tallied t m (lp .loop .c)) z (I .2) in
-    (record { passed = T .passed; within = omega arith; stopped = λ h. absurd (omega arith) }, T)
+    (stops-end pslRules t (T .passed), T)
 
 pub count-uses-spec : {M : Type 1} → statement M
 count-uses-spec =
