@@ -3,11 +3,12 @@ use mathlib.Core.Path.{_≡_, refl, sym, ap, _∙_, subst}
 use mathlib.Core.Bool.{Bool, true, false, not, _&&_, _||_, Bool·beq}
 use mathlib.Core.Option.{Option, none, some}
 use mathlib.Core.List.{List, [], _∷_}
-use Prim.Native.Nat.{ℕ, zero, suc, _≤_, _<_}
+use Prim.Native.Nat.{ℕ, zero, suc, _-_, _*_, _/_, _%_, _≤_, _<_}
 use native.Mathlib.Omega.{arith}
 use native.Mathlib.Decide.{decLt}
 use lib.Dec.{eqb, ltb}
 use lib.ListN.{length, getD}
+use lib.Bits.{bitAnd, bitOr, and-mask, and-zero-r, or-zero-l, or-zero-r}
 use borrow.Author.Tests.{lt-ltb, le-ltb, ne-eqb, ltb-true}
 use Rattle.trace.specs.declared.Refusal.{Refusal}
 use Rattle.table.specs.declared.Numbers.{Numbers as CodeNumbers}
@@ -19,7 +20,7 @@ use Rattle.table.specs.Answer.{checked}
 use Rattle.table.specs.Node.{node}
 use Rattle.table.specs.Rules.{Use, unused, signal, operand, Sorts, Rules, known, shapeOf, booleanKind}
 use Rattle.table.specs.Check.{unusedFits, signalFits, operandFits, sortFits, sortRefusal, placesRefusal, nodeRefusal}
-use Rattle.table.specs.Inner.Place.{coded, operandOr, mostKinds, places, booleans, sortNumber, Numbered, codedNumbers, Codes}
+use Rattle.table.specs.Inner.Place.{coded, operandOr, bound, mostKinds, places, booleans, sortNumber, Numbered, codedNumbers, Codes}
 
 -- ── Places ──
 
@@ -27,10 +28,21 @@ use Rattle.table.specs.Inner.Place.{coded, operandOr, mostKinds, places,
 pub record Decides (p : ℕ) (u : Use) : Type 0 where
   pub unused : (n : ℕ) → not (eqb p 1) || eqb n 0 ≡ unusedFits u n
   pub signal : (n : ℕ) → not (eqb p 32) || ltb n 32 ≡ signalFits u n
-  pub operand : (n i : ℕ) → ltb p 256 || ltb n i ≡ operandFits u n i
-  pub sort : (b : Bool) → ltb p 256 || Bool·beq b (eqb p 257) ≡ sortFits u b
-  pub first : (n m : ℕ) → 256 ≤ p → n ≡ operandOr u n m
-  pub second : (n m : ℕ) → p < 256 → m ≡ operandOr u n m
+  pub operand : (n i : ℕ) → ltb p 65280 || ltb n i ≡ operandFits u n i
+  pub sort : (b : Bool) → ltb p 65280 || Bool·beq b (eqb p 65281) ≡ sortFits u b
+  pub below : (i : ℕ) → 65280 ≤ p → i ≡ bound u i
+  pub limit : (i : ℕ) → p < 65280 → p ≡ bound u i
+  pub chosen : (n m : ℕ) → n < 65536 → m < 65536 → bitOr (bitAnd n (p / 256 * 257)) (bitAnd m (65535 - p / 256 * 257)) ≡ operandOr u n m
+
+-- By the mask 0, and by that of all ones.
+and-ones : (n : ℕ) → n < 65536 → bitAnd n 65535 ≡ n
+and-ones n h = let z : bitAnd n 65535 ≡ n % 65536 = and-mask n 16 in omega arith
+
+second : (n m : ℕ) → m < 65536 → bitOr (bitAnd n 0) (bitAnd m 65535) ≡ m
+second n m h = rw (and-zero-r n, and-ones m h) (or-zero-l m)
+
+first : (n m : ℕ) → n < 65536 → bitOr (bitAnd n 65535) (bitAnd m 0) ≡ n
+first n m h = rw (and-zero-r m, and-ones n h) (or-zero-r n)
 
 decided : (u : Use) → Decides (coded u) u
 decided unused =
@@ -39,8 +51,9 @@ decided unused =
       signal = λ n. refl;
       operand = λ n i. refl;
       sort = λ b. refl;
-      first = λ n m h. absurd (omega arith);
-      second = λ n m h. refl;
+      below = λ i h. absurd (omega arith);
+      limit = λ i h. refl;
+      chosen = λ n m h g. second n m g;
     }
 decided signal =
     record {
@@ -48,8 +61,9 @@ decided signal =
       signal = λ n. refl;
       operand = λ n i. refl;
       sort = λ b. refl;
-      first = λ n m h. absurd (omega arith);
-      second = λ n m h. refl;
+      below = λ i h. absurd (omega arith);
+      limit = λ i h. refl;
+      chosen = λ n m h g. second n m g;
     }
 decided (operand true) =
     record {
@@ -57,8 +71,9 @@ decided (operand true) =
       signal = λ n. refl;
       operand = λ n i. refl;
       sort = λ b. refl;
-      first = λ n m h. refl;
-      second = λ n m h. absurd (omega arith);
+      below = λ i h. refl;
+      limit = λ i h. absurd (omega arith);
+      chosen = λ n m h g. first n m h;
     }
 decided (operand false) =
     record {
@@ -66,8 +81,9 @@ decided (operand false) =
       signal = λ n. refl;
       operand = λ n i. refl;
       sort = λ b. refl;
-      first = λ n m h. refl;
-      second = λ n m h. absurd (omega arith);
+      below = λ i h. refl;
+      limit = λ i h. absurd (omega arith);
+      chosen = λ n m h g. first n m h;
     }
 
 pub decides : {p : ℕ} (u : Use) → p ≡ coded u → Decides p u

@@ -12,7 +12,7 @@ ghost use Rattle.trace.specs.Refusal.{refused, unless};
 ghost use Rattle.table.specs.Answer.{checked};
 ghost use Rattle.table.specs.Rules.{Use, Rules as TableRules};
 ghost use Rattle.table.specs.Check.{lengthFits, unusedFits, signalFits, operandFits, sortFits, placesRefusal, nodeRefusal, refusalAt};
-ghost use Rattle.table.specs.Inner.Place.{coded, codedNumbers, operandOr, lowFits, Numbered, Codes};
+ghost use Rattle.table.specs.Inner.Place.{coded, codedNumbers, operandOr, bound, lowFits, Numbered, Codes};
 
 // The number of a node, counted from 0 along a table: never a point of time.
 pub struct NodeNo(pub u16);
@@ -20,15 +20,15 @@ pub struct NodeNo(pub u16);
 // How many kinds a table can have.
 pub const MOST_KINDS: usize = 11;
 
-// What a place of a node holds, as a number: from FORMULA on it stands for an operand, and below that it is the limit of what the place holds. A
+// What a place of a node holds, as a number: below 256 it is the limit of what the place holds, and for an operand its high byte is all ones. A
 // number and not an enum, so that the test of a node takes no branch on its kind. What is promised of a place is promised of the four that follow.
 pub const UNUSED: u16 = 1;
 
 pub const SIGNAL: u16 = SIGNALS;
 
-pub const FORMULA: u16 = 256;
+pub const FORMULA: u16 = 255 * 256;
 
-pub const BOOLEAN: u16 = 257;
+pub const BOOLEAN: u16 = 255 * 256 + 1;
 
 // The numbers of the refusals, each by what is wrong. Where there are no sorts, that refusal has the number 0, and the test is left out.
 pub struct Numbers {
@@ -61,6 +61,7 @@ pub fn length_fits(most: usize, n: usize) -> bool
     (n % 3 == 0) & (0 < n / 3) & (n / 3 <= most)
 }
 
+// The tests of place p, which holds n.
 fn unused_fits(p: u16, n: u16) -> bool
     ensures { λ r. ⌜ ((u : Use) → p ≡ coded u → r ≡ unusedFits u n) ⌝ }
 {
@@ -85,11 +86,19 @@ pub fn sort_fits(p: u16, b: bool) -> bool
     (p < FORMULA) | (b == (p == BOOLEAN))
 }
 
-// n where the place has an operand, or else m: a choice of values, which takes no branch.
+// What a place of node i holds is below this. The choice between two values stays one in the compiled loops, and takes no branch.
+fn bound(p: u16, i: NodeNo) -> u16
+    ensures { λ r. ⌜ ((u : Use) → p ≡ coded u → r ≡ bound u (i .0)) ⌝ }
+{
+    if FORMULA <= p { i.0 } else { p }
+}
+
+// n where the place has an operand, or else m. By a mask, made of the high byte: an `if` became a branch in the loop that counts uses.
 pub fn operand_or(p: u16, n: u16, m: u16) -> u16
     ensures { λ r. ⌜ ((u : Use) → p ≡ coded u → r ≡ operandOr u n m) ⌝ }
 {
-    if FORMULA <= p { n } else { m }
+    let mask = (p / 256) * 257;
+    (n & mask) | (m & !mask)
 }
 
 // A number of a list, 0 past its end.
@@ -103,7 +112,7 @@ fn number_at(t: &[u16], at: usize) -> u16
 pub fn places_low(p: u16, q: u16, i: NodeNo, l: u16, r: u16) -> bool
     ensures { λ x. ⌜ ((u v : Use) → p ≡ coded u → q ≡ coded v → x ≡ (lowFits u l (i .0) && lowFits v r (i .0))) ⌝ }
 {
-    (l < operand_or(p, i.0, p)) & (r < operand_or(q, i.0, q))
+    (l < bound(p, i)) & (r < bound(q, i))
 }
 
 // The refusal of that number unless a test was passed, then what the later tests answer.

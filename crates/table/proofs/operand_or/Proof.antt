@@ -1,13 +1,14 @@
--- `operand_or` chooses by whether the number of the place is past all limits.
+-- `operand_or` chooses by a mask: all ones for an operand, or else 0.
+use borrow.Author.Needs.{needs}
 use Rattle.table.proofs.PlaceLaw.{decides}
 use Rattle.table.proofs.operand_or.Statement.{statement}
 use Rattle.table.proofs.operand_or.Tie as tie
 
-returns : tie.Need-returns
-returns c u e = let a = c .before .args in decides u e .first (a .n) (a .m) (c .if1 .taken)
+mul-mask : tie.Need-mul-mask
+mul-mask c = search needs
 
-returns-2 : tie.Need-returns-2
-returns-2 c u e = let a = c .before .args in decides u e .second (a .n) (a .m) (c .if1 .left)
+returns : tie.Need-returns
+returns c u e = decides u e .chosen (c .args .n) (c .args .m) (c .fits .n .fits) (c .fits .m .fits)
 
 pub operand-or-spec : {M : Type 1} → statement M
-operand-or-spec = tie.close (tie.spec returns returns-2)
+operand-or-spec = tie.close (tie.spec mul-mask returns)

@@ -15,12 +15,12 @@ use Rattle.table.specs.Check.{sortFits}
 
 -- ── Places ──
 
--- Without an operand it is the limit of what the place holds; an operand has one of two numbers past all limits.
+-- Without an operand it is the limit of what the place holds; the high byte of an operand's is all ones.
 abbrev pub coded : Use → ℕ
 coded unused = 1
 coded signal = signals
-coded (operand false) = 256
-coded (operand true) = 257
+coded (operand false) = 65280
+coded (operand true) = 65281
 
 -- The number of an operand, or else m.
 abbrev pub operandOr : Use → ℕ → ℕ → ℕ
