@@ -1,12 +1,11 @@
 // LTL tables and their check.
 use table::Checked;
 use table::FORMULA;
+use table::MOST_KINDS;
 use table::NodeNo;
 use table::Numbers;
 use table::Rules;
 use table::SIGNAL;
-use table::SPARE;
-use table::Shape;
 use table::UNUSED;
 use trace::Refusal;
 ghost use mathlib.Core.Path.{_≡_};
@@ -38,21 +37,39 @@ pub const KINDS: u16 = 7;
 // The most nodes of a table.
 pub const MOST_NODES: usize = 4096;
 
-// What stands left and right, kind by kind. All are formulas, so no operand is of the wrong sort, and that refusal has no number: 0.
+// What stands left, and what stands right, kind by kind; unused places behind, up to the most kinds that a table can have.
+const LEFT: [u16; MOST_KINDS] = [
+    UNUSED, // 0 true
+    SIGNAL, // 1 var
+    FORMULA, // 2 not
+    FORMULA, // 3 and
+    FORMULA, // 4 or
+    FORMULA, // 5 next
+    FORMULA, // 6 until
+    UNUSED,
+    UNUSED,
+    UNUSED,
+    UNUSED,
+];
+
+const RIGHT: [u16; MOST_KINDS] = [
+    UNUSED, // 0 true
+    UNUSED, // 1 var
+    UNUSED, // 2 not
+    FORMULA, // 3 and
+    FORMULA, // 4 or
+    UNUSED, // 5 next
+    FORMULA, // 6 until
+    UNUSED,
+    UNUSED,
+    UNUSED,
+    UNUSED,
+];
+
+// All nodes are formulas, so no operand is of the wrong sort, and that refusal has no number: 0.
 pub const LTL: Rules = Rules {
-    shapes: [
-        Shape(UNUSED, UNUSED), // 0 true
-        Shape(SIGNAL, UNUSED), // 1 var
-        Shape(FORMULA, UNUSED), // 2 not
-        Shape(FORMULA, FORMULA), // 3 and
-        Shape(FORMULA, FORMULA), // 4 or
-        Shape(FORMULA, UNUSED), // 5 next
-        Shape(FORMULA, FORMULA), // 6 until
-        SPARE,
-        SPARE,
-        SPARE,
-        SPARE,
-    ],
+    left: LEFT,
+    right: RIGHT,
     kinds: KINDS,
     booleans: 0,
     numbers: Numbers {
@@ -69,19 +86,22 @@ fn first_refused(t: &[u16]) -> usize
     requires { ⌜ count (now t) < 65536 ⌝ }
     ensures { λ i. ⌜ FirstRefused ltlRules (now (t .entry)) i ⌝ }
 {
-    let rules = LTL;
+    let left = LEFT;
+    let right = RIGHT;
     let n = t.len() / 3;
     let mut i: usize = 0;
     while i < n {
         let k = t[3 * i];
         let l = t[3 * i + 1];
         let r = t[3 * i + 2];
-        if rules.kinds <= k {
+        if KINDS <= k {
             return i;
         }
         let at = k as usize;
-        let h = rules.shapes[at];
-        if !table::places_low(h, i as u16, l, r) {
+        let p = left[at];
+        let q = right[at];
+        let own = i as u16;
+        if !table::places_low(p, q, NodeNo(own), l, r) {
             return i;
         }
         i += 1;

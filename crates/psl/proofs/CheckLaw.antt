@@ -7,12 +7,11 @@ use Prim.Native.Nat.{ℕ, zero, suc, _+_, _*_, _-_, _≤_, _<_}
 use native.Mathlib.Omega.{arith}
 use native.Mathlib.Numerals.{add-one}
 use native.Mathlib.Decide.{ℕ-discrete}
-use lib.Dec.{eqb, ltb}
+use lib.Dec.{eqb}
 use lib.ListN.{length, getD, set, length-set, replicate, length-replicate, getD-replicate}
 use lib.Seq.{getD-set-same, getD-set-other}
 use borrow.Author.Tests.{eq-eqb, ne-eqb, eqb-true, ltb-true, not-true}
 use Rattle.trace.specs.declared.Refusal.{Refusal}
-use Rattle.table.specs.declared.Place.{Place}
 use Rattle.trace.specs.Refusal.{refused, lowest}
 use Rattle.table.specs.Node.{count, kindAt, leftAt, rightAt}
 use Rattle.table.specs.Rules.{Use, unused, signal, operand, shapeOf}
@@ -45,21 +44,21 @@ named-in signal n i c h g = omega arith
 named-in (operand b) n i c h g = omega arith
 
 -- Where there is no operand, any kind will do.
-pub named-sort : (u : Use) (t : List ℕ) (n m : ℕ) → sortFits u (ltb (kindAt t (operandOr u n 0)) m) ≡ sortFits u (ltb (kindAt t n) m)
-named-sort unused t n m = refl
-named-sort signal t n m = refl
-named-sort (operand b) t n m = refl
+pub named-sort : (u : Use) (t : List ℕ) (n : ℕ) → sortFits u (isBoolean pslRules t (operandOr u n 0)) ≡ sortFits u (isBoolean pslRules t n)
+named-sort unused t n = refl
+named-sort signal t n = refl
+named-sort (operand b) t n = refl
 
 abbrev pub BothLow : Use × Use → ℕ → ℕ → ℕ → Bool
 BothLow u i l r = lowFits (u .0) l i && lowFits (u .1) r i
 
--- What the places l and r name in t has its kind; those below m are Booleans.
-module _ (u : Use × Use) (i l r : ℕ) (t : List ℕ) (m : ℕ) where
+-- What the places l and r name in t has its kind.
+module _ (u : Use × Use) (i l r : ℕ) (t : List ℕ) where
   abbrev BothFit : Bool
-  BothFit = allFit pslRules (u .0) l i (ltb (kindAt t l) m) && allFit pslRules (u .1) r i (ltb (kindAt t r) m)
+  BothFit = allFit pslRules (u .0) l i (isBoolean pslRules t l) && allFit pslRules (u .1) r i (isBoolean pslRules t r)
 
   pub not-low : BothLow u i l r ≡ false → false ≡ BothFit
-  not-low e = one-fails (lowFits (u .0) l i) (lowFits (u .1) r i) (sortFits (u .0) (ltb (kindAt t l) m)) (sortFits (u .1) (ltb (kindAt t r) m)) e
+  not-low e = one-fails (lowFits (u .0) l i) (lowFits (u .1) r i) (sortFits (u .0) (isBoolean pslRules t l)) (sortFits (u .1) (isBoolean pslRules t r)) e
 
   module _ (e : BothLow u i l r ≡ true) where
     lows : (lowFits (u .0) l i ≡ true) × (lowFits (u .1) r i ≡ true)
@@ -73,12 +72,12 @@ module _ (u : Use × Use) (i l r : ℕ) (t : List ℕ) (m : ℕ) where
       pub right-in : operandOr (u .1) r 0 < count t
       right-in = named-in (u .1) r i (count t) (ltb-true _ _ (lows .1)) h
 
-    pub low-sorts : sortFits (u .0) (ltb (kindAt t l) m) && sortFits (u .1) (ltb (kindAt t r) m) ≡ BothFit
-    low-sorts = rw (lows .0, lows .1) (both-pass (sortFits (u .0) (ltb (kindAt t l) m)) (sortFits (u .1) (ltb (kindAt t r) m)))
+    pub low-sorts : sortFits (u .0) (isBoolean pslRules t l) && sortFits (u .1) (isBoolean pslRules t r) ≡ BothFit
+    low-sorts = rw (lows .0, lows .1) (both-pass (sortFits (u .0) (isBoolean pslRules t l)) (sortFits (u .1) (isBoolean pslRules t r)))
 
 -- ── Counts ──
 
-pub one-low : (b : Bool) → one b ≤ 1
+one-low : (b : Bool) → one b ≤ 1
 one-low true = omega arith
 one-low false = omega arith
 
@@ -126,15 +125,15 @@ nothing-more c i j h =
       | no d ↦ getD-set-other c i j (getD c i 0 + 0) 0 (λ q. d (sym q)) ∙ omega arith
     ]
 
-counted-coded : (u : Use) (n i : ℕ) (c : List ℕ) → let at = operandOr u n i in at < length c → Counted u n c (set c at (getD c at 0 + one (coded u .operand)))
-counted-coded unused n i c h = record { same = length-set c i (getD c i 0 + 0); more = λ j l. nothing-more c i j h }
-counted-coded signal n i c h = record { same = length-set c i (getD c i 0 + 0); more = λ j l. nothing-more c i j h }
-counted-coded (operand b) n i c h = counted-operand b n c h
+pub counted : (u : Use) (n i : ℕ) (c : List ℕ) → let at = operandOr u n i in at < length c → Counted u n c (set c at (getD c at 0 + operandOr u 1 0))
+counted unused n i c h = record { same = length-set c i (getD c i 0 + 0); more = λ j l. nothing-more c i j h }
+counted signal n i c h = record { same = length-set c i (getD c i 0 + 0); more = λ j l. nothing-more c i j h }
+counted (operand b) n i c h = counted-operand b n c h
 
-pub counted : (p : Place) (u : Use) → p ≡ coded u → (n i : ℕ) (c : List ℕ) → let at = operandOr u n i in at < length c → Counted u n c (set c at (getD c at 0 + one (p .operand)))
-counted p u e n i c h =
-    let at = operandOr u n i in
-    subst (λ (q : Place). Counted u n c (set c at (getD c at 0 + one (q .operand)))) (sym e) (counted-coded u n i c h)
+pub one-more : (u : Use) → operandOr u 1 0 ≤ 1
+one-more unused = omega arith
+one-more signal = omega arith
+one-more (operand b) = omega arith
 
 own-or-below : (u : Use) (n i : ℕ) → n < bound u i → operandOr u n i ≤ i
 own-or-below unused n i h = omega arith
@@ -173,11 +172,11 @@ module _ {t : List ℕ} {i : ℕ} {c : List ℕ} (T : Tallied t i c) (h : i < co
       let l : at < length c = omega (arith, T .for-nodes, own-or-below u n i (f .low)) in
       (l, omega (arith, few, T .counts at l, uses-low t at i))
 
-  pub left-room : (p : Place) → p ≡ coded left → Room p (leftAt t i) i c
+  pub left-room : (p : ℕ) → p ≡ coded left → Room p (leftAt t i) i c
   left-room p e = let r = room left (leftAt t i) (sound .left) in record { meant = left; is = e; inside = r .0; few = omega (arith, r .1) }
 
   module _ (d : List ℕ) (L : Counted left (leftAt t i) c d) where
-    pub right-room : (p : Place) → p ≡ coded right → Room p (rightAt t i) i d
+    pub right-room : (p : ℕ) → p ≡ coded right → Room p (rightAt t i) i d
     right-room p e =
         let at = operandOr right (rightAt t i) i in
         let r = room right (rightAt t i) (sound .right) in

@@ -2,25 +2,23 @@
 use table::BOOLEAN;
 use table::Checked;
 use table::FORMULA;
+use table::MOST_KINDS;
 use table::NodeNo;
 use table::Numbers;
-use table::Place;
 use table::Rules;
 use table::SIGNAL;
-use table::Shape;
 use table::UNUSED;
 use trace::Refusal;
 ghost use mathlib.Core.Path.{_≡_};
 ghost use mathlib.Core.Bool.{_&&_};
 ghost use Prim.Native.Nat.{_<_};
-ghost use lib.Dec.{ltb};
 ghost use Rattle.table.specs.Answer.{checked};
-ghost use Rattle.table.specs.Node.{count, kindAt};
+ghost use Rattle.table.specs.Node.{count};
 ghost use Rattle.table.specs.Rules.{Use};
-ghost use Rattle.table.specs.Check.{sortFits, refusalAt};
-ghost use Rattle.table.specs.Inner.Place.{coded, codedShape, operandOr, allFit};
+ghost use Rattle.table.specs.Check.{sortFits, isBoolean, refusalAt};
+ghost use Rattle.table.specs.Inner.Place.{coded, operandOr, allFit};
 ghost use Rattle.table.specs.Inner.First.{FirstRefused};
-ghost use Rattle.psl.specs.Check.{pslRules, one, treeRefusal, pslRefusal};
+ghost use Rattle.psl.specs.Check.{pslRules, treeRefusal, pslRefusal};
 ghost use Rattle.psl.specs.Inner.Counts.{Counted, Room, Tallied};
 ghost use Rattle.psl.specs.Answer.{PslChecks};
 
@@ -54,21 +52,38 @@ pub const BOOLEANS: u16 = 4;
 // The most nodes of a table.
 pub const MOST_NODES: usize = 1024;
 
-// What stands left and right, kind by kind. The first four kinds are Booleans, the others formulas.
+// What stands left, and what stands right, kind by kind.
+const LEFT: [u16; MOST_KINDS] = [
+    UNUSED, // 0 true
+    SIGNAL, // 1 var
+    BOOLEAN, // 2 bnot
+    BOOLEAN, // 3 band
+    BOOLEAN, // 4 weak
+    BOOLEAN, // 5 strong
+    FORMULA, // 6 not
+    FORMULA, // 7 and
+    FORMULA, // 8 next
+    FORMULA, // 9 until
+    FORMULA, // 10 abort
+];
+
+const RIGHT: [u16; MOST_KINDS] = [
+    UNUSED, // 0 true
+    UNUSED, // 1 var
+    UNUSED, // 2 bnot
+    BOOLEAN, // 3 band
+    UNUSED, // 4 weak
+    UNUSED, // 5 strong
+    UNUSED, // 6 not
+    FORMULA, // 7 and
+    UNUSED, // 8 next
+    FORMULA, // 9 until
+    BOOLEAN, // 10 abort
+];
+
 pub const PSL: Rules = Rules {
-    shapes: [
-        Shape(UNUSED, UNUSED), // 0 true
-        Shape(SIGNAL, UNUSED), // 1 var
-        Shape(BOOLEAN, UNUSED), // 2 bnot
-        Shape(BOOLEAN, BOOLEAN), // 3 band
-        Shape(BOOLEAN, UNUSED), // 4 weak
-        Shape(BOOLEAN, UNUSED), // 5 strong
-        Shape(FORMULA, UNUSED), // 6 not
-        Shape(FORMULA, FORMULA), // 7 and
-        Shape(FORMULA, UNUSED), // 8 next
-        Shape(FORMULA, FORMULA), // 9 until
-        Shape(FORMULA, BOOLEAN), // 10 abort
-    ],
+    left: LEFT,
+    right: RIGHT,
     kinds: KINDS,
     booleans: BOOLEANS,
     numbers: Numbers {
@@ -80,56 +95,34 @@ pub const PSL: Rules = Rules {
     },
 };
 
-// The node whose kind is read for a place: where the place has no operand, any will do.
-fn named(p: Place, n: u16) -> u16
-    ensures { λ r. ⌜ ((u : Use) → p ≡ coded u → r ≡ operandOr u n 0) ⌝ }
-{
-    n & p.mask
-}
-
-// What place p names is of its sort.
-fn named_fits(p: Place, n: u16, t: &[u16], booleans: u16) -> bool
+// What place p names is of its sort. Where it has no operand, the kind of any node will do.
+fn named_fits(p: u16, n: u16, t: &[u16]) -> bool
     requires { ⌜ ((u : Use) × (p ≡ coded u) × (operandOr u n 0 < count (now t))) ⌝ }
-    ensures { λ r. ⌜ ((u : Use) → p ≡ coded u → r ≡ sortFits u (ltb (kindAt (now (t .entry)) n) booleans)) ⌝ }
+    ensures { λ r. ⌜ ((u : Use) → p ≡ coded u → r ≡ sortFits u (isBoolean pslRules (now (t .entry)) n)) ⌝ }
 {
-    let m = named(p, n) as usize;
-    table::sort_fits(p, t[3 * m] < booleans)
+    let m = table::operand_or(p, n, 0) as usize;
+    table::sort_fits(p, t[3 * m] < BOOLEANS)
 }
 
 // All four tests at once, and for both places, without a branch on what a place holds: first that it is low enough, then its sort.
-fn places_fit(h: Shape, i: u16, l: u16, r: u16, t: &[u16], booleans: u16) -> bool
-    requires { ⌜ (i < count (now t)) × ((u : Use × Use) × (h ≡ codedShape u)) ⌝ }
-    ensures { λ x. ⌜ ((u : Use × Use) → h ≡ codedShape u → x ≡ (allFit pslRules (u .0) l i (ltb (kindAt (now (t .entry)) l) booleans) && allFit pslRules (u .1) r i (ltb (kindAt (now (t .entry)) r) booleans))) ⌝ }
+fn places_fit(p: u16, q: u16, i: NodeNo, l: u16, r: u16, t: &[u16]) -> bool
+    requires { ⌜ (i .0 < count (now t)) × ((u : Use × Use) × (p ≡ coded (u .0)) × (q ≡ coded (u .1))) ⌝ }
+    ensures { λ x. ⌜ ((u : Use × Use) → p ≡ coded (u .0) → q ≡ coded (u .1) → x ≡ (allFit pslRules (u .0) l (i .0) (isBoolean pslRules (now (t .entry)) l) && allFit pslRules (u .1) r (i .0) (isBoolean pslRules (now (t .entry)) r))) ⌝ }
 {
-    let p = h.0;
-    let q = h.1;
-    if !table::places_low(h, i, l, r) {
+    if !table::places_low(p, q, i, l, r) {
         return false;
     }
-    named_fits(p, l, t, booleans) & named_fits(q, r, t, booleans)
+    named_fits(p, l, t) & named_fits(q, r, t)
 }
 
-// Where a place that holds n is counted: at its operand, or else at its own node i.
-fn counted_at(p: Place, n: u16, i: u16) -> u16
-    ensures { λ r. ⌜ ((u : Use) → p ≡ coded u → r ≡ operandOr u n i) ⌝ }
-{
-    (n & p.mask) | (i & !p.mask)
-}
-
-fn one(b: bool) -> u16
-    ensures { λ r. ⌜ r ≡ one b ⌝ }
-{
-    if b { 1 } else { 0 }
-}
-
-// A place of node i that holds n is counted: if that is an operand, it is used once more. Nothing is added where it is none, which takes no
-// branch.
-fn count_place(p: Place, n: u16, i: u16, c: &mut [u16])
-    requires { ⌜ Room p n i (now c) ⌝ }
+// A place of node i that holds n is counted: if that is an operand, it is used once more. Where it is none nothing is added, at node i, which takes
+// no branch.
+fn count_place(p: u16, n: u16, i: NodeNo, c: &mut [u16])
+    requires { ⌜ Room p n (i .0) (now c) ⌝ }
     ensures { λ _. ⌜ ((u : Use) → p ≡ coded u → Counted u n (now (c .entry)) (now (c .exit))) ⌝ }
 {
-    let at = counted_at(p, n, i) as usize;
-    let more = one(p.operand);
+    let at = table::operand_or(p, n, i.0) as usize;
+    let more = table::operand_or(p, 1, 0);
     c[at] += more;
 }
 
@@ -138,25 +131,26 @@ fn count_uses(t: &[u16], c: &mut [u16]) -> usize
     requires { ⌜ Tallied (now t) 0 (now c) ⌝ }
     ensures { λ i. ⌜ FirstRefused pslRules (now (t .entry)) i × Tallied (now (t .entry)) i (now (c .exit)) ⌝ }
 {
-    let rules = PSL;
+    let left = LEFT;
+    let right = RIGHT;
     let n = t.len() / 3;
     let mut i: usize = 0;
     while i < n {
         let k = t[3 * i];
         let l = t[3 * i + 1];
         let r = t[3 * i + 2];
-        if rules.kinds <= k {
+        if KINDS <= k {
             return i;
         }
         let at = k as usize;
-        let h = rules.shapes[at];
-        if !places_fit(h, i as u16, l, r, t, rules.booleans) {
+        let p = left[at];
+        let q = right[at];
+        let own = i as u16;
+        if !places_fit(p, q, NodeNo(own), l, r, t) {
             return i;
         }
-        let p = h.0;
-        let q = h.1;
-        count_place(p, l, i as u16, &mut *c);
-        count_place(q, r, i as u16, &mut *c);
+        count_place(p, l, NodeNo(own), &mut *c);
+        count_place(q, r, NodeNo(own), &mut *c);
         i += 1;
     }
     n

@@ -5,3 +5,4 @@ pub mod PassesLaw
 pub mod KindLaw
 pub mod ValueLaw
 pub mod StoreLaw
+pub mod FirstLaw

@@ -1,9 +1,9 @@
--- The code's tests of a place, by masks and limits, decide the definition's; and the code's rules are those of the table.
+-- The code's tests of a place, by its number, decide the definition's; and the code's rules are those of the table.
 use mathlib.Core.Path.{_≡_, refl, sym, ap, _∙_, subst}
 use mathlib.Core.Bool.{Bool, true, false, not, _&&_, _||_, Bool·beq}
 use mathlib.Core.Option.{Option, none, some}
 use mathlib.Core.List.{List, [], _∷_}
-use Prim.Native.Nat.{ℕ, zero, suc, _-_, _%_, _<_}
+use Prim.Native.Nat.{ℕ, zero, suc, _-_, _*_, _/_, _%_, _≤_, _<_}
 use native.Mathlib.Omega.{arith}
 use native.Mathlib.Decide.{decLt}
 use lib.Dec.{eqb, ltb}
@@ -11,8 +11,6 @@ use lib.ListN.{length, getD}
 use lib.Bits.{bitAnd, bitOr, and-mask, and-zero-r, or-zero-l, or-zero-r}
 use borrow.Author.Tests.{lt-ltb, le-ltb, ne-eqb, ltb-true}
 use Rattle.trace.specs.declared.Refusal.{Refusal}
-use Rattle.table.specs.declared.Place.{Place}
-use Rattle.table.specs.declared.Shape.{Shape}
 use Rattle.table.specs.declared.Numbers.{Numbers as CodeNumbers}
 use Rattle.table.specs.declared.Rules.{Rules as CodeRules}
 use Rattle.table.specs.declared.Checked.{Checked}
@@ -22,29 +20,29 @@ use Rattle.table.specs.Answer.{checked}
 use Rattle.table.specs.Node.{node}
 use Rattle.table.specs.Rules.{Use, unused, signal, operand, Sorts, Rules, known, shapeOf, booleanKind}
 use Rattle.table.specs.Check.{unusedFits, signalFits, operandFits, sortFits, sortRefusal, placesRefusal, nodeRefusal}
-use Rattle.table.specs.Inner.Place.{coded, codedShape, operandOr, bound, mostKinds, shapes, booleans, sortNumber, Numbered, codedNumbers, Codes}
+use Rattle.table.specs.Inner.Place.{coded, operandOr, bound, mostKinds, places, booleans, sortNumber, Numbered, codedNumbers, Codes}
 
 -- ── Places ──
 
 -- What the code computes of place p is what is meant of its use.
-pub record Decides (p : Place) (u : Use) : Type 0 where
-  pub unused : (n : ℕ) → not (eqb (p .limit) 1) || eqb n 0 ≡ unusedFits u n
-  pub signal : (n : ℕ) → not (eqb (p .limit) 32) || ltb n 32 ≡ signalFits u n
-  pub operand : (n i : ℕ) → not (eqb (p .limit) 0) || ltb n i ≡ operandFits u n i
-  pub sort : (b : Bool) → not (p .operand) || Bool·beq b (p .boolean) ≡ sortFits u b
-  pub low : (i : ℕ) → i < 65536 → bitOr (bitAnd i (p .mask)) (p .limit) ≡ bound u i
-  pub named : (n : ℕ) → n < 65536 → bitAnd n (p .mask) ≡ operandOr u n 0
-  pub counted : (n i : ℕ) → n < 65536 → i < 65536 → bitOr (bitAnd n (p .mask)) (bitAnd i (65535 - p .mask)) ≡ operandOr u n i
+pub record Decides (p : ℕ) (u : Use) : Type 0 where
+  pub unused : (n : ℕ) → not (eqb p 1) || eqb n 0 ≡ unusedFits u n
+  pub signal : (n : ℕ) → not (eqb p 32) || ltb n 32 ≡ signalFits u n
+  pub operand : (n i : ℕ) → ltb p 65280 || ltb n i ≡ operandFits u n i
+  pub sort : (b : Bool) → ltb p 65280 || Bool·beq b (eqb p 65281) ≡ sortFits u b
+  pub below : (i : ℕ) → 65280 ≤ p → i ≡ bound u i
+  pub limit : (i : ℕ) → p < 65280 → p ≡ bound u i
+  pub chosen : (n m : ℕ) → n < 65536 → m < 65536 → bitOr (bitAnd n (p / 256 * 257)) (bitAnd m (65535 - p / 256 * 257)) ≡ operandOr u n m
 
+-- By the mask 0, and by that of all ones.
 and-ones : (n : ℕ) → n < 65536 → bitAnd n 65535 ≡ n
 and-ones n h = let z : bitAnd n 65535 ≡ n % 65536 = and-mask n 16 in omega arith
 
--- By the mask 0, and by that of all ones.
-or-cleared : (n m : ℕ) → bitOr (bitAnd n 0) m ≡ m
-or-cleared n m = rw (and-zero-r n) (or-zero-l m)
+second : (n m : ℕ) → m < 65536 → bitOr (bitAnd n 0) (bitAnd m 65535) ≡ m
+second n m h = rw (and-zero-r n, and-ones m h) (or-zero-l m)
 
-or-kept : (n i : ℕ) → n < 65536 → bitOr (bitAnd n 65535) (bitAnd i 0) ≡ n
-or-kept n i h = rw (and-zero-r i, and-ones n h) (or-zero-r n)
+first : (n m : ℕ) → n < 65536 → bitOr (bitAnd n 65535) (bitAnd m 0) ≡ n
+first n m h = rw (and-zero-r m, and-ones n h) (or-zero-r n)
 
 decided : (u : Use) → Decides (coded u) u
 decided unused =
@@ -53,9 +51,9 @@ decided unused =
       signal = λ n. refl;
       operand = λ n i. refl;
       sort = λ b. refl;
-      low = λ i h. or-cleared i 1;
-      named = λ n h. and-zero-r n;
-      counted = λ n i h g. or-cleared n (bitAnd i 65535) ∙ and-ones i g;
+      below = λ i h. absurd (omega arith);
+      limit = λ i h. refl;
+      chosen = λ n m h g. second n m g;
     }
 decided signal =
     record {
@@ -63,44 +61,41 @@ decided signal =
       signal = λ n. refl;
       operand = λ n i. refl;
       sort = λ b. refl;
-      low = λ i h. or-cleared i 32;
-      named = λ n h. and-zero-r n;
-      counted = λ n i h g. or-cleared n (bitAnd i 65535) ∙ and-ones i g;
+      below = λ i h. absurd (omega arith);
+      limit = λ i h. refl;
+      chosen = λ n m h g. second n m g;
     }
-decided (operand b) =
+decided (operand true) =
     record {
       unused = λ n. refl;
       signal = λ n. refl;
       operand = λ n i. refl;
-      sort = λ s. refl;
-      low = λ i h. rw (and-ones i h) (or-zero-r i);
-      named = λ n h. and-ones n h;
-      counted = λ n i h g. or-kept n i h;
+      sort = λ b. refl;
+      below = λ i h. refl;
+      limit = λ i h. absurd (omega arith);
+      chosen = λ n m h g. first n m h;
+    }
+decided (operand false) =
+    record {
+      unused = λ n. refl;
+      signal = λ n. refl;
+      operand = λ n i. refl;
+      sort = λ b. refl;
+      below = λ i h. refl;
+      limit = λ i h. absurd (omega arith);
+      chosen = λ n m h g. first n m h;
     }
 
-pub decides : {p : Place} (u : Use) → p ≡ coded u → Decides p u
-decides {p} u e = subst (λ (q : Place). Decides q u) (sym e) (decided u)
-
-pub left-coded : {h : Shape} (u : Use × Use) → h ≡ codedShape u → h .0 ≡ coded (u .0)
-left-coded u e = ap (λ (s : Shape). s .0) e
-
-pub right-coded : {h : Shape} (u : Use × Use) → h ≡ codedShape u → h .1 ≡ coded (u .1)
-right-coded u e = ap (λ (s : Shape). s .1) e
+pub decides : {p : ℕ} (u : Use) → p ≡ coded u → Decides p u
+decides {p} u e = subst (λ (q : ℕ). Decides q u) (sym e) (decided u)
 
 -- ── Rules ──
 
--- What is read past the end.
-abbrev noPlace : Place
-noPlace = record { operand = false; boolean = false; mask = 0; limit = 0 }
-
-abbrev pub noShape : Shape
-noShape = record { 0 = noPlace; 1 = noPlace }
-
-shapes-at : (n : ℕ) (ks : List (Use × Use)) (k : ℕ) → k < length ks → k < n → getD (shapes n ks) k noShape ≡ codedShape (getD ks k (unused, unused))
-shapes-at zero ks k h g = absurd (omega arith)
-shapes-at (suc n) [] k h g = absurd (omega arith)
-shapes-at (suc n) (u ∷ ks) zero h g = refl
-shapes-at (suc n) (u ∷ ks) (suc k) h g = shapes-at n ks k (omega arith) (omega arith)
+places-at : (side : Use × Use → Use) (n : ℕ) (ks : List (Use × Use)) (k : ℕ) → k < length ks → k < n → getD (places side n ks) k 0 ≡ coded (side (getD ks k (unused, unused)))
+places-at side zero ks k h g = absurd (omega arith)
+places-at side (suc n) [] k h g = absurd (omega arith)
+places-at side (suc n) (u ∷ ks) zero h g = refl
+places-at side (suc n) (u ∷ ks) (suc k) h g = places-at side n ks k (omega arith) (omega arith)
 
 module _ {C : CodeRules} {R : Rules} (c : Codes C R) where
   kinds-coded : C .kinds ≡ length (R .kinds)
@@ -112,10 +107,12 @@ module _ {C : CodeRules} {R : Rules} (c : Codes C R) where
   kind-room : (k : ℕ) → k < length (R .kinds) → k < mostKinds
   kind-room k h = omega (arith, c .room)
 
-  -- The shape of a kind.
-  pub shape-coded : (k : ℕ) → k < length (R .kinds) → getD (C .shapes) k noShape ≡ codedShape (shapeOf R k)
-  shape-coded k h =
-      ap (λ (D : CodeRules). getD (D .shapes) k noShape) (c .is) ∙ shapes-at mostKinds (R .kinds) k h (kind-room k h)
+  -- The places of a kind.
+  pub left-coded : (k : ℕ) → k < length (R .kinds) → getD (C .left) k 0 ≡ coded (shapeOf R k .0)
+  left-coded k h = ap (λ (D : CodeRules). getD (D .left) k 0) (c .is) ∙ places-at (λ u. u .0) mostKinds (R .kinds) k h (kind-room k h)
+
+  pub right-coded : (k : ℕ) → k < length (R .kinds) → getD (C .right) k 0 ≡ coded (shapeOf R k .1)
+  right-coded k h = ap (λ (D : CodeRules). getD (D .right) k 0) (c .is) ∙ places-at (λ u. u .1) mostKinds (R .kinds) k h (kind-room k h)
 
   -- The code also tests that there is room for the kind.
   known-coded : (k : ℕ) → ltb k (C .kinds) && ltb k mostKinds ≡ known R k
@@ -134,12 +131,13 @@ module _ {C : CodeRules} {R : Rules} (c : Codes C R) (i k l r : ℕ) (lb rb : Bo
 
   -- The places answer where the kind is known.
   pub places-answer : ltb k (C .kinds) && ltb k mostKinds ≡ true → (a : Checked)
-      → ((R : Rules) (u : Use × Use) → Numbered (R .sorts) → C .numbers ≡ codedNumbers R → getD (C .shapes) k noShape ≡ codedShape u → a ≡ checked (placesRefusal R u i l r lb rb))
+      → ((R : Rules) (u : Use × Use) → Numbered (R .sorts) → C .numbers ≡ codedNumbers R → getD (C .left) k 0 ≡ coded (u .0) → getD (C .right) k 0 ≡ coded (u .1) → a ≡ checked (placesRefusal R u i l r lb rb))
       → a ≡ checked (nodeRefusal R i (node k l r) lb rb)
   unfolding nodeRefusal
   places-answer e a f =
       let d : known R k ≡ true = sym (known-coded c k) ∙ e in
-      rw d (f R (shapeOf R k) (c .numbered) (ap (λ (D : CodeRules). D .numbers) (c .is)) (shape-coded c k (ltb-true k _ d)))
+      let h = ltb-true k _ d in
+      rw d (f R (shapeOf R k) (c .numbered) (ap (λ (D : CodeRules). D .numbers) (c .is)) (left-coded c k h) (right-coded c k h))
 
 -- The number 0 leaves the test of the sorts out.
 sorts-coded : (S : Option Sorts) → Numbered S → (u : Use × Use) (lb rb : Bool)

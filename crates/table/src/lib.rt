@@ -12,7 +12,7 @@ ghost use Rattle.trace.specs.Refusal.{refused, unless};
 ghost use Rattle.table.specs.Answer.{checked};
 ghost use Rattle.table.specs.Rules.{Use, Rules as TableRules};
 ghost use Rattle.table.specs.Check.{lengthFits, unusedFits, signalFits, operandFits, sortFits, placesRefusal, nodeRefusal, refusalAt};
-ghost use Rattle.table.specs.Inner.Place.{coded, codedShape, codedNumbers, bound, lowFits, Numbered, Codes};
+ghost use Rattle.table.specs.Inner.Place.{coded, codedNumbers, operandOr, bound, lowFits, Numbered, Codes};
 
 // The number of a node, counted from 0 along a table: never a point of time.
 pub struct NodeNo(pub u16);
@@ -20,52 +20,15 @@ pub struct NodeNo(pub u16);
 // How many kinds a table can have.
 pub const MOST_KINDS: usize = 11;
 
-// The mask of a place that holds an operand.
-const ONES: u16 = 65535;
+// What a place of a node holds, as a number: below 256 it is the limit of what the place holds, and for an operand its high byte is all ones. A
+// number and not an enum, so that the test of a node takes no branch on its kind. What is promised of a place is promised of the four that follow.
+pub const UNUSED: u16 = 1;
 
-// What a place of a node holds: the number of an operand, Boolean or not, or else a number below the limit. Data and not an enum, so that
-// the test of a node takes no branch on its kind; the mask, all ones for an operand, is there for the same reason. What is promised of a place
-// is promised of the four that follow.
-pub struct Place {
-    pub mask: u16,
-    pub limit: u16,
-    pub operand: bool,
-    pub boolean: bool,
-}
+pub const SIGNAL: u16 = SIGNALS;
 
-pub const UNUSED: Place = Place {
-    mask: 0,
-    limit: 1,
-    operand: false,
-    boolean: false,
-};
+pub const FORMULA: u16 = 255 * 256;
 
-pub const SIGNAL: Place = Place {
-    mask: 0,
-    limit: SIGNALS,
-    operand: false,
-    boolean: false,
-};
-
-pub const BOOLEAN: Place = Place {
-    mask: ONES,
-    limit: 0,
-    operand: true,
-    boolean: true,
-};
-
-pub const FORMULA: Place = Place {
-    mask: ONES,
-    limit: 0,
-    operand: true,
-    boolean: false,
-};
-
-// The left and the right place of a kind.
-pub struct Shape(pub Place, pub Place);
-
-// The shape of a number that is no kind.
-pub const SPARE: Shape = Shape(UNUSED, UNUSED);
+pub const BOOLEAN: u16 = 255 * 256 + 1;
 
 // The numbers of the refusals, each by what is wrong. Where there are no sorts, that refusal has the number 0, and the test is left out.
 pub struct Numbers {
@@ -76,9 +39,11 @@ pub struct Numbers {
     pub sort: u8,
 }
 
-// The rules of a table: the shapes of its kinds, how many kinds there are, and how many of these, the first, are Booleans.
+// The rules of a table: what stands left, and what stands right, kind by kind; how many kinds there are, and how many of these, the first, are
+// Booleans.
 pub struct Rules {
-    pub shapes: [Shape; MOST_KINDS],
+    pub left: [u16; MOST_KINDS],
+    pub right: [u16; MOST_KINDS],
     pub kinds: u16,
     pub booleans: u16,
     pub numbers: Numbers,
@@ -96,36 +61,44 @@ pub fn length_fits(most: usize, n: usize) -> bool
     (n % 3 == 0) & (0 < n / 3) & (n / 3 <= most)
 }
 
-// The limit tells what a place holds: 1 where it is unused, SIGNALS for a signal, 0 for an operand.
-fn unused_fits(p: Place, n: u16) -> bool
+// The tests of place p, which holds n.
+fn unused_fits(p: u16, n: u16) -> bool
     ensures { λ r. ⌜ ((u : Use) → p ≡ coded u → r ≡ unusedFits u n) ⌝ }
 {
-    (p.limit != 1) | (n == 0)
+    (p != UNUSED) | (n == 0)
 }
 
-fn signal_fits(p: Place, n: u16) -> bool
+fn signal_fits(p: u16, n: u16) -> bool
     ensures { λ r. ⌜ ((u : Use) → p ≡ coded u → r ≡ signalFits u n) ⌝ }
 {
-    (p.limit != SIGNALS) | (n < SIGNALS)
+    (p != SIGNAL) | (n < SIGNALS)
 }
 
-fn operand_fits(p: Place, n: u16, i: u16) -> bool
-    ensures { λ r. ⌜ ((u : Use) → p ≡ coded u → r ≡ operandFits u n i) ⌝ }
+fn operand_fits(p: u16, n: u16, i: NodeNo) -> bool
+    ensures { λ r. ⌜ ((u : Use) → p ≡ coded u → r ≡ operandFits u n (i .0)) ⌝ }
 {
-    (p.limit != 0) | (n < i)
+    (p < FORMULA) | (n < i.0)
 }
 
-pub fn sort_fits(p: Place, b: bool) -> bool
+pub fn sort_fits(p: u16, b: bool) -> bool
     ensures { λ r. ⌜ ((u : Use) → p ≡ coded u → r ≡ sortFits u b) ⌝ }
 {
-    !p.operand | (b == p.boolean)
+    (p < FORMULA) | (b == (p == BOOLEAN))
 }
 
-// What a place of node i holds is below this.
-fn bound(p: Place, i: u16) -> u16
-    ensures { λ r. ⌜ ((u : Use) → p ≡ coded u → r ≡ bound u i) ⌝ }
+// What a place of node i holds is below this. The choice between two values stays one in the compiled loops, and takes no branch.
+fn bound(p: u16, i: NodeNo) -> u16
+    ensures { λ r. ⌜ ((u : Use) → p ≡ coded u → r ≡ bound u (i .0)) ⌝ }
 {
-    (i & p.mask) | p.limit
+    if FORMULA <= p { i.0 } else { p }
+}
+
+// n where the place has an operand, or else m. By a mask, made of the high byte: an `if` became a branch in the loop that counts uses.
+pub fn operand_or(p: u16, n: u16, m: u16) -> u16
+    ensures { λ r. ⌜ ((u : Use) → p ≡ coded u → r ≡ operandOr u n m) ⌝ }
+{
+    let mask = (p / 256) * 257;
+    (n & mask) | (m & !mask)
 }
 
 // A number of a list, 0 past its end.
@@ -135,12 +108,10 @@ fn number_at(t: &[u16], at: usize) -> u16
     if at < t.len() { t[at] } else { 0 }
 }
 
-// Both places of node i are low enough. There is no branch on what they hold.
-pub fn places_low(h: Shape, i: u16, l: u16, r: u16) -> bool
-    ensures { λ x. ⌜ ((u : Use × Use) → h ≡ codedShape u → x ≡ (lowFits (u .0) l i && lowFits (u .1) r i)) ⌝ }
+// Both places of node i are low enough: an operand is below i, and without one the place's number is the limit.
+pub fn places_low(p: u16, q: u16, i: NodeNo, l: u16, r: u16) -> bool
+    ensures { λ x. ⌜ ((u v : Use) → p ≡ coded u → q ≡ coded v → x ≡ (lowFits u l (i .0) && lowFits v r (i .0))) ⌝ }
 {
-    let p = h.0;
-    let q = h.1;
     (l < bound(p, i)) & (r < bound(q, i))
 }
 
@@ -156,11 +127,18 @@ fn unless(passed: bool, number: u8, later: Checked) -> Checked
 }
 
 // The places of node i, its operands being Booleans if lb and rb.
-fn check_places(x: Numbers, h: Shape, i: u16, l: u16, r: u16, lb: bool, rb: bool) -> Checked
-    ensures { λ a. ⌜ ((R : TableRules) (u : Use × Use) → Numbered (R .sorts) → x ≡ codedNumbers R → h ≡ codedShape u → a ≡ checked (placesRefusal R u i l r lb rb)) ⌝ }
+fn check_places(
+    x: Numbers,
+    p: u16,
+    q: u16,
+    i: NodeNo,
+    l: u16,
+    r: u16,
+    lb: bool,
+    rb: bool,
+) -> Checked
+    ensures { λ a. ⌜ ((R : TableRules) (u : Use × Use) → Numbered (R .sorts) → x ≡ codedNumbers R → p ≡ coded (u .0) → q ≡ coded (u .1) → a ≡ checked (placesRefusal R u (i .0) l r lb rb)) ⌝ }
 {
-    let p = h.0;
-    let q = h.1;
     unless(
         unused_fits(p, l) & unused_fits(q, r),
         x.unused,
@@ -189,8 +167,9 @@ pub fn check_node(rules: Rules, i: NodeNo, k: u16, l: u16, r: u16, lb: bool, rb:
         return Checked::Refused(Refusal(x.kind));
     }
     let at = k as usize;
-    let h = rules.shapes[at];
-    check_places(x, h, i.0, l, r, lb, rb)
+    let p = rules.left[at];
+    let q = rules.right[at];
+    check_places(x, p, q, i, l, r, lb, rb)
 }
 
 // The answer for node i of a table, whatever the table is.

@@ -1,20 +1,20 @@
 -- `check_ltl` answers for the length, then for the lowest node that is refused.
 use borrow.Author.Needs.{needs}
-use mathlib.Core.Path.{_≡_, sym, ap, _∙_}
+use mathlib.Core.Path.{_≡_, sym, ap}
 use mathlib.Core.Bool.{true}
 use lib.ListN.{length}
 use native.Mathlib.Omega.{arith}
-use borrow.Author.Tests.{not-true, not-false}
 use Rattle.table.specs.Check.{lengthFits}
 use Rattle.table.specs.Answer.{checked}
-use Rattle.table.proofs.CheckLaw.{sized, refused-length, refused-node, refused-none}
+use Rattle.table.proofs.CheckLaw.{sized, refused-node, refused-none}
+use Rattle.table.proofs.FirstLaw.{length-passed, length-failed}
 use Rattle.ltl.specs.Check.{ltlRules}
 use Rattle.ltl.proofs.check_ltl.Statement.{statement}
 use Rattle.ltl.proofs.check_ltl.Tie as tie
 
 -- Past the test of the length.
 right-length : (e : tie.Else1) → let a = e .before .before .before .args in lengthFits (ltlRules .most) (length (a .t .now)) ≡ true
-right-length e = sym (e .before .length-fits .ensures) ∙ not-false _ (e .if1 .left)
+right-length e = length-passed ltlRules (e .before .before .before .args .t .now) (e .before .length-fits .ensures) (e .if1 .left)
 
 length-fits-requires : tie.Need-length-fits-requires
 length-fits-requires c κs = search needs
@@ -22,8 +22,7 @@ length-fits-requires c κs = search needs
 returns : tie.Need-returns
 returns c =
     let f = c .before in
-    let a = f .before .before .args in
-    sym (ap checked (refused-length ltlRules (a .t .now) (sym (f .length-fits .ensures) ∙ not-true (f .length-fits .result) (c .if1 .taken))))
+    sym (ap checked (length-failed ltlRules (f .before .before .args .t .now) (f .length-fits .ensures) (c .if1 .taken)))
 
 first-refused-requires : tie.Need-first-refused-requires
 first-refused-requires c κs = omega (arith, sized ltlRules (c .before .before .before .args .t .now) (right-length c) .low)

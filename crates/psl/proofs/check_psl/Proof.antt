@@ -1,13 +1,13 @@
 -- `check_psl` answers for the length, then for the nodes, from cleared counts, of which there are enough.
 use borrow.Author.Needs.{needs}
-use mathlib.Core.Path.{_≡_, sym, ap, _∙_}
+use mathlib.Core.Path.{_≡_, sym, ap}
 use mathlib.Core.Bool.{true}
 use lib.ListN.{length}
 use native.Mathlib.Omega.{arith}
-use borrow.Author.Tests.{not-true, not-false}
 use Rattle.table.specs.Check.{lengthFits}
 use Rattle.table.specs.Answer.{checked}
-use Rattle.table.proofs.CheckLaw.{sized, refused-length}
+use Rattle.table.proofs.CheckLaw.{sized}
+use Rattle.table.proofs.FirstLaw.{length-passed, length-failed}
 use Rattle.psl.specs.Check.{pslRules}
 use Rattle.psl.proofs.CheckLaw.{untallied, psl-first}
 use Rattle.psl.proofs.check_psl.Statement.{statement}
@@ -15,7 +15,7 @@ use Rattle.psl.proofs.check_psl.Tie as tie
 
 -- Past the test of the length.
 right-length : (e : tie.Else1) → lengthFits (pslRules .most) (length (e .before .before .before .args .t .now)) ≡ true
-right-length e = sym (e .before .length-fits .ensures) ∙ not-false _ (e .if1 .left)
+right-length e = length-passed pslRules (e .before .before .before .args .t .now) (e .before .length-fits .ensures) (e .if1 .left)
 
 length-fits-requires : tie.Need-length-fits-requires
 length-fits-requires c κs = search needs
@@ -24,7 +24,7 @@ returns : tie.Need-returns
 returns c =
     let f = c .before in
     let t = f .before .before .args .t .now in
-    sym (ap checked (psl-first t _ (refused-length pslRules t (sym (f .length-fits .ensures) ∙ not-true (f .length-fits .result) (c .if1 .taken)))))
+    sym (ap checked (psl-first t _ (length-failed pslRules t (f .length-fits .ensures) (c .if1 .taken))))
 
 slice-aggregate-check-nodes : tie.Need-slice-aggregate-check-nodes
 slice-aggregate-check-nodes c = search needs

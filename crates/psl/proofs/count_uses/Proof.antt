@@ -1,18 +1,18 @@
 -- `count_uses` passes the nodes that are not refused and counts their operands; it stops at the first that is refused.
 use borrow.Author.Needs.{needs}
 use Prim.Native.Nat.{ℕ, _-_, _≤_, _<_}
-use mathlib.Core.Path.{_≡_, refl, sym, subst, _∙_}
+use mathlib.Core.Path.{_≡_, refl, subst, _∙_}
 use mathlib.Core.Option.{none}
 use mathlib.Core.List.{List}
 use native.Mathlib.Omega.{arith}
 use lib.ListN.{length, getD}
-use borrow.Author.Tests.{not-true, not-false}
 use Rattle.table.specs.Node.{count, kindAt}
 use Rattle.table.specs.Rules.{Use, shapeOf}
 use Rattle.table.specs.Check.{refusalAt}
-use Rattle.table.specs.Inner.Place.{codedShape, codedRules, mostKinds}
-use Rattle.table.proofs.CheckLaw.{Fast, fast-none, fast-some, unknown-some, sized}
-use Rattle.table.proofs.PlaceLaw.{noShape, left-coded, right-coded, shape-coded}
+use Rattle.table.specs.Inner.Place.{coded, codedRules, mostKinds}
+use Rattle.table.proofs.CheckLaw.{Fast, sized}
+use Rattle.table.proofs.FirstLaw.{node-passed, stops-unknown, stops-unfit, stops-end}
+use Rattle.table.proofs.PlaceLaw.{left-coded, right-coded}
 use Rattle.psl.specs.Check.{pslRules}
 use Rattle.psl.specs.Inner.Counts.{Tallied}
 use Rattle.psl.proofs.CheckLaw.{rules-coded, left-room, right-room, tallied-next}
@@ -20,10 +20,10 @@ use Rattle.psl.proofs.count_uses.Statement.{statement}
 use Rattle.psl.proofs.count_uses.Tie as tie
 
 abbrev Inv-loop : tie.InvT-loop
-Inv-loop t c₀ rules n i₀ c i = (i ≤ n) × (length c ≡ length c₀) × Tallied t i c
+Inv-loop t c₀ left right n i₀ c i = (i ≤ n) × (length c ≡ length c₀) × Tallied t i c
 
 abbrev μ-loop : tie.MeasureT-loop
-μ-loop t c₀ rules n i₀ c i = n - i
+μ-loop t c₀ left right n i₀ c i = n - i
 
 -- What a turn knows, once the kind was read.
 abbrev turn : tie.Else1 Inv-loop μ-loop → tie.At-loop Inv-loop μ-loop
@@ -35,29 +35,32 @@ table lp = lp .before .before .before .args .t .now
 low-kind : (u : tie.Else1 Inv-loop μ-loop) → kindAt (table (turn u)) (turn u .loop .i) < mostKinds
 low-kind u = omega arith
 
--- The shape that was read is the kind's.
+-- The places that were read are the kind's.
 abbrev uses : tie.Else1 Inv-loop μ-loop → Use × Use
 uses u = shapeOf pslRules (kindAt (table (turn u)) (turn u .loop .i))
 
-shape : (u : tie.Else1 Inv-loop μ-loop) → getD (codedRules pslRules .shapes) (kindAt (table (turn u)) (turn u .loop .i)) noShape ≡ codedShape (uses u)
-shape u = shape-coded rules-coded _ (low-kind u)
+left-is : (u : tie.Else1 Inv-loop μ-loop) → getD (codedRules pslRules .left) (kindAt (table (turn u)) (turn u .loop .i)) 0 ≡ coded (uses u .0)
+left-is u = left-coded rules-coded _ (low-kind u)
+
+right-is : (u : tie.Else1 Inv-loop μ-loop) → getD (codedRules pslRules .right) (kindAt (table (turn u)) (turn u .loop .i)) 0 ≡ coded (uses u .1)
+right-is u = right-coded rules-coded _ (low-kind u)
 
 few : (lp : tie.At-loop Inv-loop μ-loop) → count (table lp) ≤ pslRules .most
 few lp = sized pslRules (table lp) (lp .loop .inv .2 .right-length) .low
 
 -- Past the tests, the node is not refused.
 abbrev read : tie.Else2 Inv-loop μ-loop → tie.Else1 Inv-loop μ-loop
-read e = e .before .before .before
+read e = e .before .before
 
 -- What the test of its places says.
-fits : (p : tie.After-places-fit Inv-loop μ-loop) → let lp = turn (p .before .before) in p .places-fit .result ≡ Fast pslRules (table lp) (lp .loop .i)
-fits p = let u = p .before .before in p .places-fit .ensures (uses u) (shape u)
+fits : (p : tie.After-places-fit Inv-loop μ-loop) → let lp = turn (p .before) in p .places-fit .result ≡ Fast pslRules (table lp) (lp .loop .i)
+fits p = let u = p .before in p .places-fit .ensures (uses u) (left-is u) (right-is u)
 
 fine : (e : tie.Else2 Inv-loop μ-loop) → let lp = turn (read e) in refusalAt pslRules (table lp) (lp .loop .i) ≡ none
 fine e =
     let u = read e in
     let lp = turn u in
-    fast-none pslRules (table lp) (lp .loop .i) (low-kind u) (sym (fits (e .before)) ∙ not-false _ (e .if2 .left))
+    node-passed pslRules (table lp) (lp .loop .i) (low-kind u) (fits (e .before)) (e .if2 .left)
 
 inside : (u : tie.Else1 Inv-loop μ-loop) → turn u .loop .i < count (table (turn u))
 inside u = omega arith
@@ -105,24 +108,28 @@ returns : tie.Need-returns Inv-loop μ-loop
 returns c =
     let lp = c .before .before .before .before .before in
     let I = lp .loop .inv in
-    (record { passed = I .2 .passed; within = I .0; stopped = λ _. unknown-some pslRules (table lp) (lp .loop .i) (c .if1 .taken) }, I .2)
+    (stops-unknown pslRules (table lp) (lp .loop .i) (I .0) (I .2 .passed) (c .if1 .taken), I .2)
 
 cast-at : tie.Need-cast-at Inv-loop μ-loop
 cast-at c = omega (arith, low-kind c)
 
-mul-h : tie.Need-mul-h Inv-loop μ-loop
-mul-h c = omega (arith, low-kind c)
+mul-p : tie.Need-mul-p Inv-loop μ-loop
+mul-p c = omega (arith, low-kind c)
 
-element-copy-out-h : tie.Need-element-copy-out-h Inv-loop μ-loop
-element-copy-out-h c = low-kind c
+array-read-p : tie.Need-array-read-p Inv-loop μ-loop
+array-read-p c = low-kind c
 
-cast-places-fit : tie.Need-cast-places-fit Inv-loop μ-loop
-cast-places-fit c = let u = c .before in omega (arith, few (turn u), inside u)
+mul-q : tie.Need-mul-q Inv-loop μ-loop
+mul-q c = omega (arith, low-kind c)
+
+array-read-q : tie.Need-array-read-q Inv-loop μ-loop
+array-read-q c = low-kind c
+
+cast-own : tie.Need-cast-own Inv-loop μ-loop
+cast-own c = omega (arith, few (turn c), inside c)
 
 places-fit-requires : tie.Need-places-fit-requires Inv-loop μ-loop
-places-fit-requires c κs =
-    let u = c .before in
-    (inside u, (uses u, shape u))
+places-fit-requires c κs = (inside c, (uses c, left-is c, right-is c))
 
 same-length-2 : tie.Need-same-length-2 Inv-loop μ-loop
 same-length-2 c = search needs
@@ -130,28 +137,22 @@ same-length-2 c = search needs
 returns-2 : tie.Need-returns-2 Inv-loop μ-loop
 returns-2 c =
     let p = c .before in
-    let lp = turn (p .before .before) in
+    let lp = turn (p .before) in
     let I = lp .loop .inv in
-    (record { passed = I .2 .passed; within = I .0; stopped = λ _. fast-some pslRules (table lp) (lp .loop .i) (sym (fits p) ∙ not-true _ (c .if2 .taken)) }, I .2)
-
-cast-count-place : tie.Need-cast-count-place Inv-loop μ-loop
-cast-count-place c = let u = read (c .before .before) in omega (arith, few (turn u), inside u)
+    (stops-unfit pslRules (table lp) (lp .loop .i) (I .0) (I .2 .passed) (fits p) (c .if2 .taken), I .2)
 
 count-place-requires : tie.Need-count-place-requires Inv-loop μ-loop
 count-place-requires c κs =
-    let e = c .before .before .before in
+    let e = c .before in
     let u = read e in
-    left-room (turn u .loop .inv .2) (inside u) (fine e) _ (left-coded (uses u) (shape u))
-
-cast-count-place-2 : tie.Need-cast-count-place-2 Inv-loop μ-loop
-cast-count-place-2 c = let u = read (c .before .before .before .before .before .before) in omega (arith, few (turn u), inside u)
+    left-room (turn u .loop .inv .2) (inside u) (fine e) _ (left-is u)
 
 count-place-requires-2 : tie.Need-count-place-requires-2 Inv-loop μ-loop
 count-place-requires-2 c κs =
     let l = c .before .before .before in
-    let e = l .before .before .before .before in
+    let e = l .before .before in
     let u = read e in
-    right-room (turn u .loop .inv .2) (inside u) (fine e) _ (l .count-place .ensures (uses u .0) (left-coded (uses u) (shape u))) _ (right-coded (uses u) (shape u))
+    right-room (turn u .loop .inv .2) (inside u) (fine e) _ (l .count-place .ensures (uses u .0) (left-is u)) _ (right-is u)
 
 add-i : tie.Need-add-i Inv-loop μ-loop
 add-i c = search needs
@@ -163,11 +164,11 @@ loop-again : tie.Need-loop-again Inv-loop μ-loop
 loop-again c =
     let r = c .before .before in
     let l = r .before .before .before .before in
-    let e = l .before .before .before .before in
+    let e = l .before .before in
     let u = read e in
     let I = turn u .loop .inv in
-    let L = l .count-place .ensures (uses u .0) (left-coded (uses u) (shape u)) in
-    let R = r .count-place2 .ensures (uses u .1) (right-coded (uses u) (shape u)) in
+    let L = l .count-place .ensures (uses u .0) (left-is u) in
+    let R = r .count-place2 .ensures (uses u .1) (right-is u) in
     (omega arith, R .same ∙ L .same ∙ I .1, tallied-next (I .2) (inside u) (fine e) _ L _ R)
 
 same-length-3 : tie.Need-same-length-3 Inv-loop μ-loop
@@ -180,7 +181,7 @@ returns-3 c =
     let I = lp .loop .inv in
     let z : lp .loop .i ≡ count t = omega arith in
     let T = subst (λ (m : ℕ). Tallied t m (lp .loop .c)) z (I .2) in
-    (record { passed = T .passed; within = omega arith; stopped = λ h. absurd (omega arith) }, T)
+    (stops-end pslRules t (T .passed), T)
 
 pub count-uses-spec : {M : Type 1} → statement M
 count-uses-spec =
@@ -203,15 +204,15 @@ count-uses-spec =
     same-length
     returns
     cast-at
-    mul-h
-    element-copy-out-h
-    cast-places-fit
+    mul-p
+    array-read-p
+    mul-q
+    array-read-q
+    cast-own
     places-fit-requires
     same-length-2
     returns-2
-    cast-count-place
     count-place-requires
-    cast-count-place-2
     count-place-requires-2
     add-i
     loop-less

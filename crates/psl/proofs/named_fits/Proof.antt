@@ -8,11 +8,11 @@ use Rattle.psl.proofs.named_fits.Statement.{statement}
 use Rattle.psl.proofs.named_fits.Tie as tie
 
 -- The kind is read within the list.
-inside : (n : tie.After-named) → n .named .result < count (n .before .before .args .t .now)
-inside n = let p = n .before .before .pre in rw (n .named .ensures (p .0) (p .1)) (p .2)
+inside : (n : tie.After-operand-or) → n .operand-or .result < count (n .before .before .args .t .now)
+inside n = let p = n .before .before .pre in rw (n .operand-or .ensures (p .0) (p .1)) (p .2)
 
-named-requires : tie.Need-named-requires
-named-requires c κs = search needs
+operand-or-requires : tie.Need-operand-or-requires
+operand-or-requires c κs = search needs
 
 cast-m : tie.Need-cast-m
 cast-m c = search needs
@@ -33,13 +33,13 @@ returns : tie.Need-returns
 returns c u e =
     let n = c .before .before in
     let a = n .before .before .args in
-    rw (c .sort-fits .ensures u e, n .named .ensures u e) (named-sort u (a .t .now) (a .n) (a .booleans))
+    rw (c .sort-fits .ensures u e, n .operand-or .ensures u e) (named-sort u (a .t .now) (a .n))
 
 pub named-fits-spec : {M : Type 1} → statement M
 named-fits-spec =
     tie.close
     (tie.spec
-    named-requires
+    operand-or-requires
     cast-m
     mul-sort-fits
     mul-sort-fits-2

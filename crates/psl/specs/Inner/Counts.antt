@@ -6,7 +6,6 @@ use mathlib.Core.List.{List}
 use Prim.Native.Nat.{ℕ, _+_, _≤_, _<_}
 use lib.ListN.{length, getD}
 use Rattle.table.specs.Node.{count}
-use Rattle.table.specs.declared.Place.{Place}
 use Rattle.table.specs.Rules.{Use}
 use Rattle.table.specs.Check.{lengthFits, refusalAt}
 use Rattle.trace.specs.Refusal.{lowest}
@@ -19,7 +18,7 @@ pub record Counted (u : Use) (n : ℕ) (c d : List ℕ) : Type 0 where
   pub more : (j : ℕ) → j < length c → getD d j 0 ≡ getD c j 0 + names u n j
 
 -- The code's place p of node i, which holds n, is counted in c where there is room for one more.
-pub record Room (p : Place) (n i : ℕ) (c : List ℕ) : Type 0 where
+pub record Room (p : ℕ) (n i : ℕ) (c : List ℕ) : Type 0 where
   pub meant : Use
   pub is : p ≡ coded meant
   pub inside : operandOr meant n i < length c

@@ -1,10 +1,13 @@
--- `bound` picks by the mask: i where there is an operand, which has no limit.
+-- `bound` chooses by the place's number: i for an operand, or else the number itself.
 use Rattle.table.proofs.PlaceLaw.{decides}
 use Rattle.table.proofs.bound.Statement.{statement}
 use Rattle.table.proofs.bound.Tie as tie
 
 returns : tie.Need-returns
-returns c u e = let st = c .before .before in decides u e .low (st .args .i) (st .fits .i .fits)
+returns c u e = decides u e .below (c .before .args .i .0) (c .if1 .taken)
+
+returns-2 : tie.Need-returns-2
+returns-2 c u e = decides u e .limit (c .before .args .i .0) (c .if1 .left)
 
 pub bound-spec : {M : Type 1} → statement M
-bound-spec = tie.close (tie.spec returns)
+bound-spec = tie.close (tie.spec returns returns-2)

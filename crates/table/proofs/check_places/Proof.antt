@@ -2,7 +2,7 @@
 use mathlib.Core.Path.{_≡_, refl, ap, _∙_}
 use mathlib.Core.Option.{none}
 use Rattle.table.specs.Answer.{checked}
-use Rattle.table.proofs.PlaceLaw.{left-coded, right-coded, byNumbers, places-coded}
+use Rattle.table.proofs.PlaceLaw.{byNumbers, places-coded}
 use borrow.Author.Needs.{needs}
 use Rattle.table.proofs.check_places.Statement.{statement}
 use Rattle.table.proofs.check_places.Tie as tie
@@ -44,7 +44,7 @@ unless-requires-4 : tie.Need-unless-requires-4
 unless-requires-4 c κs = search needs
 
 returns : tie.Need-returns
-returns c R u numbered x h =
+returns c R u numbered x p q =
     let u3 = c .before in
     let u2 = u3 .before in
     let u1 = u2 .before in
@@ -56,10 +56,8 @@ returns c R u numbered x h =
     let g1 = g2 .before in
     let n2 = g1 .before in
     let n1 = n2 .before in
-    let a = n1 .before .before .before .args in
-    let p = left-coded u h in
-    let q = right-coded u h in
-    let d : c .unless4 .result ≡ checked (byNumbers u (a .i) (a .l) (a .r) (a .lb) (a .rb) (a .x)) =
+    let a = n1 .before .args in
+    let d : c .unless4 .result ≡ checked (byNumbers u (a .i .0) (a .l) (a .r) (a .lb) (a .rb) (a .x)) =
     rw (
       ← n1 .unused-fits .ensures (u .0) p,
       ← n2 .unused-fits2 .ensures (u .1) q,
@@ -71,7 +69,7 @@ returns c R u numbered x h =
       ← s2 .sort-fits2 .ensures (u .1) q,
     )
     (c .unless4 .ensures _ (u3 .unless3 .ensures _ (u2 .unless2 .ensures _ (u1 .unless .ensures none refl)))) in
-    d ∙ ap checked (places-coded u (a .i) (a .l) (a .r) (a .lb) (a .rb) R (a .x) numbered x)
+    d ∙ ap checked (places-coded u (a .i .0) (a .l) (a .r) (a .lb) (a .rb) R (a .x) numbered x)
 
 pub check-places-spec : {M : Type 1} → statement M
 check-places-spec =

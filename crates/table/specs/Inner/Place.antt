@@ -1,4 +1,4 @@
--- The rules of a table as the code holds them, and the tests as it makes them: with masks and limits, so that the test of a node takes no branch
+-- The rules of a table as the code holds them, and the tests as it makes them: each place is a number, so that the test of a node takes no branch
 -- on its kind.
 use mathlib.Core.Path.{_≡_}
 use mathlib.Core.Bool.{Bool, true, false, _&&_}
@@ -8,8 +8,6 @@ use Prim.Native.Nat.{ℕ, zero, suc, _≤_}
 use lib.Dec.{ltb}
 use lib.ListN.{length}
 use Rattle.logic.specs.Letter.{signals}
-use Rattle.table.specs.declared.Place.{Place}
-use Rattle.table.specs.declared.Shape.{Shape}
 use Rattle.table.specs.declared.Numbers.{Numbers as CodeNumbers}
 use Rattle.table.specs.declared.Rules.{Rules as CodeRules}
 use Rattle.table.specs.Rules.{Use, unused, signal, operand, Sorts, Rules}
@@ -17,14 +15,12 @@ use Rattle.table.specs.Check.{sortFits}
 
 -- ── Places ──
 
--- A place has an operand, and then its mask is all ones; or else the mask is 0 and there is a limit.
-abbrev pub coded : Use → Place
-coded unused = record { operand = false; boolean = false; mask = 0; limit = 1 }
-coded signal = record { operand = false; boolean = false; mask = 0; limit = signals }
-coded (operand b) = record { operand = true; boolean = b; mask = 65535; limit = 0 }
-
-abbrev pub codedShape : Use × Use → Shape
-codedShape h = record { 0 = coded (h .0); 1 = coded (h .1) }
+-- Without an operand it is the limit of what the place holds; the high byte of an operand's is all ones.
+abbrev pub coded : Use → ℕ
+coded unused = 1
+coded signal = signals
+coded (operand false) = 65280
+coded (operand true) = 65281
 
 -- The number of an operand, or else m.
 abbrev pub operandOr : Use → ℕ → ℕ → ℕ
@@ -36,9 +32,7 @@ operandOr (operand b) n m = n
 
 -- All but that of the sort at once: what a place of node i holds is below this.
 abbrev pub bound : Use → ℕ → ℕ
-bound unused i = 1
-bound signal i = signals
-bound (operand b) i = i
+bound u i = operandOr u i (coded u)
 
 abbrev pub lowFits : Use → ℕ → ℕ → Bool
 lowFits u n i = ltb n (bound u i)
@@ -58,11 +52,11 @@ allFit R u n i b = sortsFit (R .sorts) u b && lowFits u n i
 abbrev pub mostKinds : ℕ
 mostKinds = 11
 
--- The shapes of n kinds, spare ones behind those that there are.
-abbrev pub shapes : ℕ → List (Use × Use) → List Shape
-shapes zero ks = []
-shapes (suc n) [] = codedShape (unused, unused) ∷ shapes n []
-shapes (suc n) (h ∷ ks) = codedShape h ∷ shapes n ks
+-- One of the two places of n kinds, unused ones behind those that there are.
+abbrev pub places : (Use × Use → Use) → ℕ → List (Use × Use) → List ℕ
+places side zero ks = []
+places side (suc n) [] = coded unused ∷ places side n []
+places side (suc n) (h ∷ ks) = coded (side h) ∷ places side n ks
 
 -- Without sorts no kind is a Boolean, and the refusal has the number 0, which stands for none.
 abbrev pub booleans : Option Sorts → ℕ
@@ -86,7 +80,8 @@ codedNumbers R =
 abbrev pub codedRules : Rules → CodeRules
 codedRules R =
     record {
-      shapes = shapes mostKinds (R .kinds);
+      left = places (λ h. h .0) mostKinds (R .kinds);
+      right = places (λ h. h .1) mostKinds (R .kinds);
       kinds = length (R .kinds);
       booleans = booleans (R .sorts);
       numbers = codedNumbers R;
