@@ -38,20 +38,20 @@ partOf x (node k l r) =
     ) k (boolean btrue)
 
 -- The kind of the node that stands for a Boolean or a formula.
-abbrev pub booleanKind : BoolExpr → ℕ
-booleanKind btrue = 0
-booleanKind (var k) = 1
-booleanKind (bnot b) = 2
-booleanKind (band b c) = 3
+abbrev pub kindOfBoolean : BoolExpr → ℕ
+kindOfBoolean btrue = 0
+kindOfBoolean (var k) = 1
+kindOfBoolean (bnot b) = 2
+kindOfBoolean (band b c) = 3
 
-abbrev pub formulaKind : Formula → ℕ
-formulaKind (weak b) = 4
-formulaKind (strong b) = 5
-formulaKind (fnot f) = 6
-formulaKind (fand f g) = 7
-formulaKind (next f) = 8
-formulaKind (until f g) = 9
-formulaKind (abort f b) = 10
+abbrev pub kindOfFormula : Formula → ℕ
+kindOfFormula (weak b) = 4
+kindOfFormula (strong b) = 5
+kindOfFormula (fnot f) = 6
+kindOfFormula (fand f g) = 7
+kindOfFormula (next f) = 8
+kindOfFormula (until f g) = 9
+kindOfFormula (abort f b) = 10
 
 -- The formula of a table is its root's.
 unfoldable pub formulaOf : List ℕ → Formula
