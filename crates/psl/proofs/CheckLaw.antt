@@ -18,8 +18,9 @@ use Rattle.table.specs.Rules.{Use, unused, signal, operand, shapeOf}
 use Rattle.table.specs.Check.{sortFits, lengthFits, isBoolean, refusalAt, tableRefusal}
 use Rattle.table.specs.Inner.Place.{coded, codedRules, operandOr, bound, lowFits, allFit, Codes}
 use Rattle.table.proofs.CheckLaw.{both-true, unless-none, or-none, Fits, Sound, node-none, node-sound, table-sound, sized, lowest-zero, lowest-next, lowest-some, none-below}
+use Rattle.table.proofs.PlaceLaw.{one-use}
 use Rattle.psl.specs.Check.{pslRules, one, names, namesAt, uses, useRefusal, rootRefusal, treeRefusal, pslRefusal, total}
-use Rattle.psl.specs.Inner.Counts.{Counted, Room, Tallied}
+use Rattle.psl.specs.Inner.Counts.{LowPlace, Counted, Room, Tallied}
 
 -- The code's rules are those of PSL tables.
 pub rules-coded : Codes (codedRules pslRules) pslRules
@@ -38,7 +39,7 @@ both-pass true true = refl
 both-pass true false = refl
 both-pass false d = refl
 
-named-in : (u : Use) (n i c : ℕ) → n < bound u i → i < c → operandOr u n 0 < c
+pub named-in : (u : Use) (n i c : ℕ) → n < bound u i → i < c → operandOr u n 0 < c
 named-in unused n i c h g = omega arith
 named-in signal n i c h g = omega arith
 named-in (operand b) n i c h g = omega arith
@@ -64,16 +65,18 @@ module _ (u : Use × Use) (i l r : ℕ) (t : List ℕ) where
     lows : (lowFits (u .0) l i ≡ true) × (lowFits (u .1) r i ≡ true)
     lows = both-true (lowFits (u .0) l i) (lowFits (u .1) r i) e
 
-    -- Each operand is a node of the table, as its user is.
-    module _ (h : i < count t) where
-      pub left-in : operandOr (u .0) l 0 < count t
-      left-in = named-in (u .0) l i (count t) (ltb-true _ _ (lows .0)) h
+    pub left-low : l < bound (u .0) i
+    left-low = ltb-true _ _ (lows .0)
 
-      pub right-in : operandOr (u .1) r 0 < count t
-      right-in = named-in (u .1) r i (count t) (ltb-true _ _ (lows .1)) h
+    pub right-low : r < bound (u .1) i
+    right-low = ltb-true _ _ (lows .1)
 
     pub low-sorts : sortFits (u .0) (isBoolean pslRules t l) && sortFits (u .1) (isBoolean pslRules t r) ≡ BothFit
     low-sorts = rw (lows .0, lows .1) (both-pass (sortFits (u .0) (isBoolean pslRules t l)) (sortFits (u .1) (isBoolean pslRules t r)))
+
+-- What is low as one use is low as the other use of the same number.
+pub low-as : {p n i : ℕ} (L : LowPlace p n i) (u : Use) → p ≡ coded u → n < bound u i
+low-as {p} {n} {i} L u e = subst (λ (v : Use). n < bound v i) (one-use (L .meant) u (L .is) e) (L .low)
 
 -- ── Counts ──
 
@@ -116,29 +119,23 @@ counted-operand b n c h =
       ];
     }
 
--- Where there is none, node i gets nothing more.
-nothing-more : (c : List ℕ) (i j : ℕ) → i < length c → getD (set c i (getD c i 0 + 0)) j 0 ≡ getD c j 0 + 0
-nothing-more c i j h =
-    elim (ℕ-discrete i j) [
-      | yes d ↦
-          subst (λ (m : ℕ). getD (set c i (getD c i 0 + 0)) m 0 ≡ getD c m 0 + 0) d (getD-set-same c i (getD c i 0 + 0) 0 h)
-      | no d ↦ getD-set-other c i j (getD c i 0 + 0) 0 (λ q. d (sym q)) ∙ omega arith
+-- Where there is none, node 0 gets nothing more.
+nothing-more : (c : List ℕ) (j : ℕ) → 0 < length c → getD (set c 0 (getD c 0 0 + 0)) j 0 ≡ getD c j 0 + 0
+nothing-more c j h =
+    elim (ℕ-discrete 0 j) [
+      | yes d ↦ subst (λ (m : ℕ). getD (set c 0 (getD c 0 0 + 0)) m 0 ≡ getD c m 0 + 0) d (getD-set-same c 0 (getD c 0 0 + 0) 0 h)
+      | no d ↦ getD-set-other c 0 j (getD c 0 0 + 0) 0 (λ q. d (sym q)) ∙ omega arith
     ]
 
-pub counted : (u : Use) (n i : ℕ) (c : List ℕ) → let at = operandOr u n i in at < length c → Counted u n c (set c at (getD c at 0 + operandOr u 1 0))
-counted unused n i c h = record { same = length-set c i (getD c i 0 + 0); more = λ j l. nothing-more c i j h }
-counted signal n i c h = record { same = length-set c i (getD c i 0 + 0); more = λ j l. nothing-more c i j h }
-counted (operand b) n i c h = counted-operand b n c h
+pub counted : (u : Use) (n : ℕ) (c : List ℕ) → let at = operandOr u n 0 in at < length c → Counted u n c (set c at (getD c at 0 + operandOr u 1 0))
+counted unused n c h = record { same = length-set c 0 (getD c 0 0 + 0); more = λ j l. nothing-more c j h }
+counted signal n c h = record { same = length-set c 0 (getD c 0 0 + 0); more = λ j l. nothing-more c j h }
+counted (operand b) n c h = counted-operand b n c h
 
 pub one-more : (u : Use) → operandOr u 1 0 ≤ 1
 one-more unused = omega arith
 one-more signal = omega arith
 one-more (operand b) = omega arith
-
-own-or-below : (u : Use) (n i : ℕ) → n < bound u i → operandOr u n i ≤ i
-own-or-below unused n i h = omega arith
-own-or-below signal n i h = omega arith
-own-or-below (operand b) n i h = omega arith
 
 -- Cleared counts, before the first node.
 pub untallied : (t : List ℕ) (n : ℕ) → lengthFits (pslRules .most) (length t) ≡ true → count t ≤ n → Tallied t 0 (replicate n 0)
@@ -166,21 +163,31 @@ module _ {t : List ℕ} {i : ℕ} {c : List ℕ} (T : Tallied t i c) (h : i < co
   right = shapeOf pslRules (kindAt t i) .1
 
   -- The count that a place adds to has room for two more.
-  room : (u : Use) (n : ℕ) {b : Bool} → Fits pslRules u n i b → let at = operandOr u n i in (at < length c) × (getD c at 0 < 65534)
+  room : (u : Use) (n : ℕ) {b : Bool} → Fits pslRules u n i b → let at = operandOr u n 0 in (at < length c) × (getD c at 0 < 65534)
   room u n f =
-      let at = operandOr u n i in
-      let l : at < length c = omega (arith, T .for-nodes, own-or-below u n i (f .low)) in
+      let at = operandOr u n 0 in
+      let l : at < length c = omega (arith, T .for-nodes, named-in u n i (count t) (f .low) h) in
       (l, omega (arith, few, T .counts at l, uses-low t at i))
 
-  pub left-room : (p : ℕ) → p ≡ coded left → Room p (leftAt t i) i c
-  left-room p e = let r = room left (leftAt t i) (sound .left) in record { meant = left; is = e; inside = r .0; few = omega (arith, r .1) }
+  abbrev low-place : (u : Use) (n : ℕ) {b : Bool} (p : ℕ) → p ≡ coded u → Fits pslRules u n i b → LowPlace p n i
+  low-place u n p e f = record { meant = u; is = e; low = f .low; few = omega (arith, few) }
+
+  pub left-room : (p : ℕ) → p ≡ coded left → Room p (leftAt t i) c
+  left-room p e =
+      let r = room left (leftAt t i) (sound .left) in
+      record { user = i; place = low-place left (leftAt t i) p e (sound .left); inside = r .0; room = omega (arith, r .1) }
 
   module _ (d : List ℕ) (L : Counted left (leftAt t i) c d) where
-    pub right-room : (p : ℕ) → p ≡ coded right → Room p (rightAt t i) i d
+    pub right-room : (p : ℕ) → p ≡ coded right → Room p (rightAt t i) d
     right-room p e =
-        let at = operandOr right (rightAt t i) i in
+        let at = operandOr right (rightAt t i) 0 in
         let r = room right (rightAt t i) (sound .right) in
-        record { meant = right; is = e; inside = omega (arith, r .0, L .same); few = omega (arith, r .1, L .more at (r .0), names-once left (leftAt t i) at) }
+        record {
+          user = i;
+          place = low-place right (rightAt t i) p e (sound .right);
+          inside = omega (arith, r .0, L .same);
+          room = omega (arith, r .1, L .more at (r .0), names-once left (leftAt t i) at);
+        }
 
     pub tallied-next : (e : List ℕ) → Counted right (rightAt t i) d e → Tallied t (i + 1) e
     unfolding total namesAt

@@ -11,15 +11,15 @@ use table::UNUSED;
 use trace::Refusal;
 ghost use mathlib.Core.Path.{_≡_};
 ghost use mathlib.Core.Bool.{_&&_};
-ghost use Prim.Native.Nat.{_<_};
+ghost use Prim.Native.Nat.{ℕ, _<_, _≤_};
 ghost use Rattle.table.specs.Answer.{checked};
 ghost use Rattle.table.specs.Node.{count};
 ghost use Rattle.table.specs.Rules.{Use};
 ghost use Rattle.table.specs.Check.{sortFits, isBoolean, refusalAt};
-ghost use Rattle.table.specs.Inner.Place.{coded, operandOr, allFit};
+ghost use Rattle.table.specs.Inner.Place.{coded, allFit};
 ghost use Rattle.table.specs.Inner.First.{FirstRefused};
 ghost use Rattle.psl.specs.Check.{pslRules, treeRefusal, pslRefusal};
-ghost use Rattle.psl.specs.Inner.Counts.{Counted, Room, Tallied};
+ghost use Rattle.psl.specs.Inner.Counts.{LowPlace, Counted, Room, Tallied};
 ghost use Rattle.psl.specs.Answer.{PslChecks};
 
 // The kinds. The first are Booleans.
@@ -97,16 +97,16 @@ pub const PSL: Rules = Rules {
 
 // What place p names is of its sort. Where it has no operand, the kind of any node will do.
 fn named_fits(p: u16, n: u16, t: &[u16]) -> bool
-    requires { ⌜ ((u : Use) × (p ≡ coded u) × (operandOr u n 0 < count (now t))) ⌝ }
+    requires { ⌜ ((i : ℕ) × LowPlace p n i × (i < count (now t))) ⌝ }
     ensures { λ r. ⌜ ((u : Use) → p ≡ coded u → r ≡ sortFits u (isBoolean pslRules (now (t .entry)) n)) ⌝ }
 {
-    let m = table::operand_or(p, n, 0) as usize;
+    let m = table::operand_of(p, n) as usize;
     table::sort_fits(p, t[3 * m] < BOOLEANS)
 }
 
 // All four tests at once, and for both places, without a branch on what a place holds: first that it is low enough, then its sort.
 fn places_fit(p: u16, q: u16, i: NodeNo, l: u16, r: u16, t: &[u16]) -> bool
-    requires { ⌜ (i .0 < count (now t)) × ((u : Use × Use) × (p ≡ coded (u .0)) × (q ≡ coded (u .1))) ⌝ }
+    requires { ⌜ (i .0 < count (now t)) × (i .0 ≤ pslRules .most) × ((u : Use × Use) × (p ≡ coded (u .0)) × (q ≡ coded (u .1))) ⌝ }
     ensures { λ x. ⌜ ((u : Use × Use) → p ≡ coded (u .0) → q ≡ coded (u .1) → x ≡ (allFit pslRules (u .0) l (i .0) (isBoolean pslRules (now (t .entry)) l) && allFit pslRules (u .1) r (i .0) (isBoolean pslRules (now (t .entry)) r))) ⌝ }
 {
     if !table::places_low(p, q, i, l, r) {
@@ -115,14 +115,13 @@ fn places_fit(p: u16, q: u16, i: NodeNo, l: u16, r: u16, t: &[u16]) -> bool
     named_fits(p, l, t) & named_fits(q, r, t)
 }
 
-// A place of node i that holds n is counted: if that is an operand, it is used once more. Where it is none nothing is added, at node i, which takes
-// no branch.
-fn count_place(p: u16, n: u16, i: NodeNo, c: &mut [u16])
-    requires { ⌜ Room p n (i .0) (now c) ⌝ }
+// A place that holds n is counted: if that is an operand, it is used once more. Where it is none, nothing is added, at node 0: that takes no branch.
+fn count_place(p: u16, n: u16, c: &mut [u16])
+    requires { ⌜ Room p n (now c) ⌝ }
     ensures { λ _. ⌜ ((u : Use) → p ≡ coded u → Counted u n (now (c .entry)) (now (c .exit))) ⌝ }
 {
-    let at = table::operand_or(p, n, i.0) as usize;
-    let more = table::operand_or(p, 1, 0);
+    let at = table::operand_of(p, n) as usize;
+    let more = table::operands_of(p);
     c[at] += more;
 }
 
@@ -149,8 +148,8 @@ fn count_uses(t: &[u16], c: &mut [u16]) -> usize
         if !places_fit(p, q, NodeNo(own), l, r, t) {
             return i;
         }
-        count_place(p, l, NodeNo(own), &mut *c);
-        count_place(q, r, NodeNo(own), &mut *c);
+        count_place(p, l, &mut *c);
+        count_place(q, r, &mut *c);
         i += 1;
     }
     n

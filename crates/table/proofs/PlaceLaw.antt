@@ -1,15 +1,17 @@
 -- The code's tests of a place, by its number, decide the definition's; and the code's rules are those of the table.
 use mathlib.Core.Path.{_≡_, refl, sym, ap, _∙_, subst}
-use mathlib.Core.Bool.{Bool, true, false, not, _&&_, _||_, Bool·beq}
+use mathlib.Core.Bool.{Bool, true, false, not, cond, _&&_, _||_, Bool·beq}
 use mathlib.Core.Option.{Option, none, some}
 use mathlib.Core.List.{List, [], _∷_}
-use Prim.Native.Nat.{ℕ, zero, suc, _-_, _*_, _/_, _%_, _≤_, _<_}
+use Prim.Native.Nat.{ℕ, zero, suc, _-_, _*_, _/_, _%_, _^_, _≤_, _<_}
 use native.Mathlib.Omega.{arith}
 use native.Mathlib.Decide.{decLt}
 use lib.Dec.{eqb, ltb}
 use lib.ListN.{length, getD}
-use lib.Bits.{bitAnd, bitOr, and-mask, and-zero-r, or-zero-l, or-zero-r}
+use native.Mathlib.Nat.{mod-eq-of-lt}
+use lib.Bits.{bitAnd, and-mask, and-comm, and-shifted}
 use borrow.Author.Tests.{lt-ltb, le-ltb, ne-eqb, ltb-true}
+use Rattle.logic.specs.Letter.{signals}
 use Rattle.trace.specs.declared.Refusal.{Refusal}
 use Rattle.table.specs.declared.Numbers.{Numbers as CodeNumbers}
 use Rattle.table.specs.declared.Rules.{Rules as CodeRules}
@@ -20,7 +22,7 @@ use Rattle.table.specs.Answer.{checked}
 use Rattle.table.specs.Node.{node}
 use Rattle.table.specs.Rules.{Use, unused, signal, operand, Sorts, Rules, known, shapeOf, booleanKind}
 use Rattle.table.specs.Check.{unusedFits, signalFits, operandFits, sortFits, sortRefusal, placesRefusal, nodeRefusal}
-use Rattle.table.specs.Inner.Place.{coded, operandOr, bound, mostKinds, places, booleans, sortNumber, Numbered, codedNumbers, Codes}
+use Rattle.table.specs.Inner.Place.{formulaCode, coded, operandOr, bound, mostKinds, places, booleans, sortNumber, Numbered, codedNumbers, Codes}
 
 -- ── Places ──
 
@@ -28,21 +30,19 @@ use Rattle.table.specs.Inner.Place.{coded, operandOr, bound, mostKinds, 
 pub record Decides (p : ℕ) (u : Use) : Type 0 where
   pub unused : (n : ℕ) → not (eqb p 1) || eqb n 0 ≡ unusedFits u n
   pub signal : (n : ℕ) → not (eqb p 32) || ltb n 32 ≡ signalFits u n
-  pub operand : (n i : ℕ) → ltb p 65280 || ltb n i ≡ operandFits u n i
-  pub sort : (b : Bool) → ltb p 65280 || Bool·beq b (eqb p 65281) ≡ sortFits u b
-  pub below : (i : ℕ) → 65280 ≤ p → i ≡ bound u i
-  pub limit : (i : ℕ) → p < 65280 → p ≡ bound u i
-  pub chosen : (n m : ℕ) → n < 65536 → m < 65536 → bitOr (bitAnd n (p / 256 * 257)) (bitAnd m (65535 - p / 256 * 257)) ≡ operandOr u n m
+  pub operand : (n i : ℕ) → ltb p 16383 || ltb n i ≡ operandFits u n i
+  pub sort : (b : Bool) → ltb p 16383 || Bool·beq b (eqb p 32767) ≡ sortFits u b
+  pub below : (i : ℕ) → 16383 ≤ p → i ≡ bound u i
+  pub limit : (i : ℕ) → p < 16383 → p ≡ bound u i
+  pub named : (n i : ℕ) → n < bound u i → i < formulaCode → bitAnd n p ≡ operandOr u n 0
+  pub one : p / 8192 % 2 ≡ operandOr u 1 0
 
--- By the mask 0, and by that of all ones.
-and-ones : (n : ℕ) → n < 65536 → bitAnd n 65535 ≡ n
-and-ones n h = let z : bitAnd n 65535 ≡ n % 65536 = and-mask n 16 in omega arith
+-- A number has no bit in common with a power of two above it, and all in common with ones.
+and-above : (n k : ℕ) → n < 2 ^ k → bitAnd n (1 * 2 ^ k) ≡ 0
+and-above n k h = and-comm n (1 * 2 ^ k) ∙ and-shifted 1 k n h
 
-second : (n m : ℕ) → m < 65536 → bitOr (bitAnd n 0) (bitAnd m 65535) ≡ m
-second n m h = rw (and-zero-r n, and-ones m h) (or-zero-l m)
-
-first : (n m : ℕ) → n < 65536 → bitOr (bitAnd n 65535) (bitAnd m 0) ≡ n
-first n m h = rw (and-zero-r m, and-ones n h) (or-zero-r n)
+and-ones : (n k : ℕ) → n < 2 ^ k → bitAnd n (2 ^ k - 1) ≡ n
+and-ones n k h = and-mask n k ∙ mod-eq-of-lt h
 
 decided : (u : Use) → Decides (coded u) u
 decided unused =
@@ -53,7 +53,8 @@ decided unused =
       sort = λ b. refl;
       below = λ i h. absurd (omega arith);
       limit = λ i h. refl;
-      chosen = λ n m h g. second n m g;
+      named = λ n i h g. and-above n 0 h;
+      one = refl;
     }
 decided signal =
     record {
@@ -63,7 +64,8 @@ decided signal =
       sort = λ b. refl;
       below = λ i h. absurd (omega arith);
       limit = λ i h. refl;
-      chosen = λ n m h g. second n m g;
+      named = λ n i h g. and-above n 5 h;
+      one = refl;
     }
 decided (operand true) =
     record {
@@ -73,7 +75,8 @@ decided (operand true) =
       sort = λ b. refl;
       below = λ i h. refl;
       limit = λ i h. absurd (omega arith);
-      chosen = λ n m h g. first n m h;
+      named = λ n i h g. and-ones n 15 (omega arith);
+      one = refl;
     }
 decided (operand false) =
     record {
@@ -83,11 +86,25 @@ decided (operand false) =
       sort = λ b. refl;
       below = λ i h. refl;
       limit = λ i h. absurd (omega arith);
-      chosen = λ n m h g. first n m h;
+      named = λ n i h g. and-ones n 14 (omega arith);
+      one = refl;
     }
 
 pub decides : {p : ℕ} (u : Use) → p ≡ coded u → Decides p u
 decides {p} u e = subst (λ (q : ℕ). Decides q u) (sym e) (decided u)
+
+-- No two uses have one number.
+abbrev decoded : ℕ → Use
+decoded p = cond (eqb p 1) unused (cond (eqb p signals) signal (operand (eqb p 32767)))
+
+decoded-coded : (u : Use) → decoded (coded u) ≡ u
+decoded-coded unused = refl
+decoded-coded signal = refl
+decoded-coded (operand true) = refl
+decoded-coded (operand false) = refl
+
+pub one-use : {p : ℕ} (u v : Use) → p ≡ coded u → p ≡ coded v → u ≡ v
+one-use u v e d = sym (decoded-coded u) ∙ ap decoded (sym e ∙ d) ∙ decoded-coded v
 
 -- ── Rules ──
 

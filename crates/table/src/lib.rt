@@ -4,7 +4,7 @@ use trace::Refusal;
 ghost use mathlib.Core.Path.{_≡_};
 ghost use mathlib.Core.Bool.{_&&_};
 ghost use mathlib.Core.Option.{Option};
-ghost use Prim.Native.Nat.{_<_};
+ghost use Prim.Native.Nat.{ℕ, _<_};
 ghost use lib.ListN.{getD};
 ghost use Rattle.trace.specs.declared.Refusal.{Refusal};
 ghost use Rattle.table.specs.Node.{node};
@@ -12,7 +12,7 @@ ghost use Rattle.trace.specs.Refusal.{refused, unless};
 ghost use Rattle.table.specs.Answer.{checked};
 ghost use Rattle.table.specs.Rules.{Use, Rules as TableRules};
 ghost use Rattle.table.specs.Check.{lengthFits, unusedFits, signalFits, operandFits, sortFits, placesRefusal, nodeRefusal, refusalAt};
-ghost use Rattle.table.specs.Inner.Place.{coded, codedNumbers, operandOr, bound, lowFits, Numbered, Codes};
+ghost use Rattle.table.specs.Inner.Place.{formulaCode, coded, codedNumbers, operandOr, bound, lowFits, Numbered, Codes};
 
 // The number of a node, counted from 0 along a table: never a point of time.
 pub struct NodeNo(pub u16);
@@ -20,15 +20,15 @@ pub struct NodeNo(pub u16);
 // How many kinds a table can have.
 pub const MOST_KINDS: usize = 11;
 
-// What a place of a node holds, as a number: below 256 it is the limit of what the place holds, and for an operand its high byte is all ones. A
+// What a place of a node holds, as a number: without an operand it is the limit of what the place holds; an operand's has all bits that a node's number can have. A
 // number and not an enum, so that the test of a node takes no branch on its kind. What is promised of a place is promised of the four that follow.
 pub const UNUSED: u16 = 1;
 
 pub const SIGNAL: u16 = SIGNALS;
 
-pub const FORMULA: u16 = 255 * 256;
+pub const FORMULA: u16 = 16383;
 
-pub const BOOLEAN: u16 = 255 * 256 + 1;
+pub const BOOLEAN: u16 = 32767;
 
 // The numbers of the refusals, each by what is wrong. Where there are no sorts, that refusal has the number 0, and the test is left out.
 pub struct Numbers {
@@ -93,12 +93,19 @@ fn bound(p: u16, i: NodeNo) -> u16
     if FORMULA <= p { i.0 } else { p }
 }
 
-// n where the place has an operand, or else m. By a mask, made of the high byte: an `if` became a branch in the loop that counts uses.
-pub fn operand_or(p: u16, n: u16, m: u16) -> u16
-    ensures { λ r. ⌜ ((u : Use) → p ≡ coded u → r ≡ operandOr u n m) ⌝ }
+// The operand of place p, which holds n; 0 where it has none. What was found low enough has no bit in common with a limit. An `if` became a
+// branch in the loop that counts uses.
+pub fn operand_of(p: u16, n: u16) -> u16
+    ensures { λ r. ⌜ ((u : Use) (i : ℕ) → p ≡ coded u → n < bound u i → i < formulaCode → r ≡ operandOr u n 0) ⌝ }
 {
-    let mask = (p / 256) * 257;
-    (n & mask) | (m & !mask)
+    n & p
+}
+
+// How many operands place p has: 1, or none.
+pub fn operands_of(p: u16) -> u16
+    ensures { λ r. ⌜ ((u : Use) → p ≡ coded u → r ≡ operandOr u 1 0) ⌝ }
+{
+    p / 8192 % 2
 }
 
 // A number of a list, 0 past its end.

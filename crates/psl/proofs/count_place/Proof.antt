@@ -1,27 +1,35 @@
 -- `count_place` adds a use of an operand, and nothing else.
 use borrow.Author.Needs.{needs}
 use Prim.Native.Nat.{ℕ, _<_}
-use mathlib.Core.Path.{subst}
+use mathlib.Core.Path.{_≡_, subst}
 use native.Mathlib.Omega.{arith}
 use lib.ListN.{length, getD}
-use Rattle.psl.proofs.CheckLaw.{one-more, counted}
+use Rattle.table.specs.Rules.{Use}
+use Rattle.table.specs.Inner.Place.{coded, operandOr}
+use Rattle.psl.proofs.CheckLaw.{low-as, one-more, counted}
 use Rattle.psl.proofs.count_place.Statement.{statement}
 use Rattle.psl.proofs.count_place.Tie as tie
 
-room : (u : tie.After-operand-or) → getD (u .before .before .args .c .now) (u .operand-or .result) 0 < 65535
-room u = let r = u .before .before .pre in rw (u .operand-or .ensures (r .meant) (r .is)) (r .few)
+-- Where it is counted.
+place : (o : tie.After-operand-of) (u : Use) → let a = o .before .before .args in a .p ≡ coded u → o .operand-of .result ≡ operandOr u (a .n) 0
+place o u e =
+    let r = o .before .before .pre in
+    o .operand-of .ensures u (r .user) e (low-as (r .place) u e) (omega (arith, r .place .few))
 
-inside : (u : tie.After-operand-or) → u .operand-or .result < length (u .before .before .args .c .now)
-inside u = let r = u .before .before .pre in rw (u .operand-or .ensures (r .meant) (r .is)) (r .inside)
+room : (o : tie.After-operand-of) → getD (o .before .before .args .c .now) (o .operand-of .result) 0 < 65535
+room o = let r = o .before .before .pre in rw (place o (r .place .meant) (r .place .is)) (r .room)
 
-operand-or-requires : tie.Need-operand-or-requires
-operand-or-requires c κs = search needs
+inside : (o : tie.After-operand-of) → o .operand-of .result < length (o .before .before .args .c .now)
+inside o = let r = o .before .before .pre in rw (place o (r .place .meant) (r .place .is)) (r .inside)
+
+operand-of-requires : tie.Need-operand-of-requires
+operand-of-requires c κs = search needs
 
 cast-at : tie.Need-cast-at
 cast-at c = search needs
 
-operand-or-requires-2 : tie.Need-operand-or-requires-2
-operand-or-requires-2 c κs = search needs
+operands-of-requires : tie.Need-operands-of-requires
+operands-of-requires c κs = search needs
 
 mul-c : tie.Need-mul-c
 mul-c c = search needs
@@ -32,8 +40,8 @@ slice-read-c c = inside (c .before .before)
 add-c : tie.Need-add-c
 add-c c =
     let at = c .before .before in
-    let r = at .before .before .pre in
-    omega (arith, room at, c .before .operand-or2 .ensures (r .meant) (r .is), one-more (r .meant))
+    let r = at .before .before .pre .place in
+    omega (arith, room at, c .before .operands-of .ensures (r .meant) (r .is), one-more (r .meant))
 
 slice-write-c : tie.Need-slice-write-c
 slice-write-c c = inside (c .before .before)
@@ -45,16 +53,16 @@ returns : tie.Need-returns
 returns c u e =
     let at = c .before .before in
     let a = at .before .before .args in
-    let z = at .operand-or .ensures u e in
-    rw (z, c .before .operand-or2 .ensures u e) (counted u (a .n) (a .i .0) (a .c .now) (subst (λ (m : ℕ). m < length (a .c .now)) z (inside at)))
+    let z = place at u e in
+    rw (z, c .before .operands-of .ensures u e) (counted u (a .n) (a .c .now) (subst (λ (m : ℕ). m < length (a .c .now)) z (inside at)))
 
 pub count-place-spec : {M : Type 1} → statement M
 count-place-spec =
     tie.close
     (tie.spec
-    operand-or-requires
+    operand-of-requires
     cast-at
-    operand-or-requires-2
+    operands-of-requires
     mul-c
     slice-read-c
     add-c

@@ -129,7 +129,7 @@ cast-own : tie.Need-cast-own Inv-loop μ-loop
 cast-own c = omega (arith, few (turn c), inside c)
 
 places-fit-requires : tie.Need-places-fit-requires Inv-loop μ-loop
-places-fit-requires c κs = (inside c, (uses c, left-is c, right-is c))
+places-fit-requires c κs = (inside c, omega (arith, few (turn c), inside c), (uses c, left-is c, right-is c))
 
 same-length-2 : tie.Need-same-length-2 Inv-loop μ-loop
 same-length-2 c = search needs

@@ -5,7 +5,7 @@ use mathlib.Core.Bool.{true}
 use borrow.Author.Tests.{not-true, not-false}
 use Rattle.table.specs.Rules.{Use}
 use Rattle.table.specs.Inner.Place.{coded}
-use Rattle.psl.proofs.CheckLaw.{BothLow, not-low, left-in, right-in, low-sorts}
+use Rattle.psl.proofs.CheckLaw.{BothLow, not-low, left-low, right-low, low-sorts}
 use Rattle.psl.proofs.places_fit.Statement.{statement}
 use Rattle.psl.proofs.places_fit.Tie as tie
 
@@ -29,16 +29,16 @@ named-fits-requires : tie.Need-named-fits-requires
 named-fits-requires c κs =
     let st = start (c .before) in
     let a = st .args in
-    let u = st .pre .1 in
-    (u .0 .0, u .1, left-in (u .0) (a .i .0) (a .l) (a .r) (a .t .now) (low c (u .0) (u .1) (u .2)) (st .pre .0))
+    let u = st .pre .2 in
+    (a .i .0, record { meant = u .0 .0; is = u .1; low = left-low (u .0) (a .i .0) (a .l) (a .r) (a .t .now) (low c (u .0) (u .1) (u .2)); few = st .pre .1 }, st .pre .0)
 
 named-fits-requires-2 : tie.Need-named-fits-requires-2
 named-fits-requires-2 c κs =
     let e = c .before in
     let st = start (e .before) in
     let a = st .args in
-    let u = st .pre .1 in
-    (u .0 .1, u .2, right-in (u .0) (a .i .0) (a .l) (a .r) (a .t .now) (low e (u .0) (u .1) (u .2)) (st .pre .0))
+    let u = st .pre .2 in
+    (a .i .0, record { meant = u .0 .1; is = u .2; low = right-low (u .0) (a .i .0) (a .l) (a .r) (a .t .now) (low e (u .0) (u .1) (u .2)); few = st .pre .1 }, st .pre .0)
 
 returns-2 : tie.Need-returns-2
 returns-2 c u p q =

@@ -15,12 +15,15 @@ use Rattle.table.specs.Check.{sortFits}
 
 -- ── Places ──
 
--- Without an operand it is the limit of what the place holds; the high byte of an operand's is all ones.
+-- Without an operand it is the limit of what the place holds; an operand's has all bits that a node's number can have.
+abbrev pub formulaCode : ℕ
+formulaCode = 16383
+
 abbrev pub coded : Use → ℕ
 coded unused = 1
 coded signal = signals
-coded (operand false) = 65280
-coded (operand true) = 65281
+coded (operand false) = formulaCode
+coded (operand true) = 32767
 
 -- The number of an operand, or else m.
 abbrev pub operandOr : Use → ℕ → ℕ → ℕ
