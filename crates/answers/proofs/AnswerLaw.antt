@@ -35,7 +35,7 @@ use Rattle.ltl_verdict.specs.Verdict.{LtlJudges}
 use Rattle.psl_verdict.proofs.JudgesLaw.{psl-fine}
 use Rattle.ltl_verdict.proofs.JudgesLaw.{ltl-fine, ltl-empty}
 use Rattle.formula_lines.specs.Spelling.{formulaLine}
-use Rattle.trace_lines.specs.Spelling.{Trace, lineOfTrace}
+use Rattle.trace_lines.specs.Spelling.{TraceLists, lineOfTrace}
 use Rattle.psl.specs.Closing.{closingNodes}
 use Rattle.text.specs.Reading.{Takes, Refuses}
 use Rattle.formula_lines.specs.FormulaAnswer.{formulaLimits, formulaRefusal, FormulaAnswer}
@@ -150,7 +150,7 @@ module _ (line l m : List ℕ) where
   later-refused (a, _, _) = refuses-by (λ t. trace-room t (length room) (length room) enough enough) a
 
   module _ (a b : ℕ) (r : TraceAnswer line room room (TraceLine.Letters a b) l m) where
-    abbrev t : Trace
+    abbrev t : TraceLists
     t = r .0
 
     taken : Takes lineOfTrace traceLimits line t

@@ -31,7 +31,7 @@ use Rattle.text.proofs.ReadingLaw.{taken-alone, not-both, refused-alone}
 use Rattle.formula_lines.specs.Spelling.{formulaLine}
 use Rattle.formula_lines.specs.FormulaAnswer.{formulaLimits}
 use Rattle.formula_lines.proofs.FormulaLaw.{formula-injective}
-use Rattle.trace_lines.specs.Spelling.{Trace, lineOfTrace}
+use Rattle.trace_lines.specs.Spelling.{TraceLists, lineOfTrace}
 use Rattle.trace_lines.specs.TraceAnswer.{traceLimits}
 use Rattle.trace_lines.proofs.TraceLaw.{trace-alone}
 use Rattle.printing.specs.Printed.{refusedText, verdictText, tableText}
@@ -72,7 +72,7 @@ unrefused A (Verdict.Refused x) a = absurd a
 tells-both : {A B : Type 0} → (A ↔ B) → (v w : Verdict) → VerdictOn A v → VerdictOn B w → v ≡ w
 tells-both {A} {B} e v w a b = one-verdict none e v w (unrefused A v a) (unrefused B w b)
 
-module _ (f : Formula) (t : Trace) where
+module _ (f : Formula) (t : TraceLists) where
   agree-lines : (v w : Verdict) → Judged f t v w → 0 < size (t .lead) (t .loop) → v ≡ w
   agree-lines v w j h = tells-both (translates f (t .lead) (t .loop) h) v w (j .psl) (j .ltl h)
 
@@ -106,7 +106,7 @@ module _ (f : Formula) (t : Trace) where
 later-alone : (f : Formula) (line : List ℕ) (r q : Later) → LaterAnswer f line r → LaterAnswer f line q → r ≡ q
 later-alone f line (Later.Verdicts v w) (Later.Verdicts v′ w′) (t, a, j) (u, b, k) =
     let d = taken-alone lineOfTrace trace-alone traceLimits b a in
-    let (p, q) = judged-alone f t v w v′ w′ j (subst (λ (x : Trace). Judged f x v′ w′) d k) in
+    let (p, q) = judged-alone f t v w v′ w′ j (subst (λ (x : TraceLists). Judged f x v′ w′) d k) in
     cc
 later-alone f line (Later.Verdicts v w) (Later.Refused x) (t, a, j) b = absurd (not-both lineOfTrace trace-alone traceLimits a b)
 later-alone f line (Later.Refused x) (Later.Verdicts v w) b (t, a, j) = absurd (not-both lineOfTrace trace-alone traceLimits a b)

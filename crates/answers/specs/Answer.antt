@@ -12,7 +12,7 @@ use Rattle.translate.specs.Emitted.{emitted}
 use Rattle.trace.specs.declared.Verdict.{Verdict}
 use Rattle.trace.specs.declared.Verdict.the-variants as Verdict
 use Rattle.text.specs.Reading.{Takes, Refuses}
-use Rattle.trace_lines.specs.Spelling.{Trace, lineOfTrace}
+use Rattle.trace_lines.specs.Spelling.{TraceLists, lineOfTrace}
 use Rattle.trace_lines.specs.TraceAnswer.{traceLimits}
 use Rattle.printing.specs.Printed.{refusedText, traceText}
 use Rattle.answers.specs.declared.Later.{Later}
@@ -26,14 +26,14 @@ VerdictOn A (Verdict.Refused x) = ⊥
 
 -- The verdicts v and w on a trace: v tells whether f holds by the PSL meaning, w whether its emitted table holds by the LTL meaning. On the empty
 -- trace, which has no LTL meaning, w is refused, and printed as `none`.
-pub record Judged (f : Formula) (t : Trace) (v w : Verdict) : Type 0 where
+pub record Judged (f : Formula) (t : TraceLists) (v w : Verdict) : Type 0 where
   pub psl : VerdictOn (HoldsOn f (t .lead) (t .loop)) v
   pub ltl : 0 < size (t .lead) (t .loop) → VerdictOn (LtlHoldsOn (treeOf (emitted f)) (t .lead) (t .loop)) w
   pub empty : size (t .lead) (t .loop) ≡ 0 → w ≡ Verdict.Refused (refused 16)
 
 -- A trace line is answered by both verdicts on the trace that it spells, or by its refusal.
 abbrev pub LaterAnswer : Formula → List ℕ → Later → Type 0
-LaterAnswer f line (Later.Verdicts v w) = (t : Trace) × Takes lineOfTrace traceLimits line t × Judged f t v w
+LaterAnswer f line (Later.Verdicts v w) = (t : TraceLists) × Takes lineOfTrace traceLimits line t × Judged f t v w
 LaterAnswer f line (Later.Refused x) = Refuses lineOfTrace traceLimits line x
 
 -- What the answer to trace line i prints; it is line i + 1 of the input.

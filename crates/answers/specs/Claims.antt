@@ -13,7 +13,7 @@ use Rattle.translate.specs.Emitted.{emitted}
 use Rattle.psl_verdict.specs.Verdict.{PslJudges}
 use Rattle.ltl_verdict.specs.Verdict.{LtlJudges}
 use Rattle.text.specs.Text.{text}
-use Rattle.trace_lines.specs.Spelling.{Trace}
+use Rattle.trace_lines.specs.Spelling.{TraceLists}
 use Rattle.printing.specs.Printed.{verdictText}
 use Rattle.answers.specs.Answer.{Judged, LaterAnswer}
 use Rattle.answers.specs.Whole.{Runs}
@@ -24,11 +24,11 @@ pub record Claims : Type 0 where
   pub agree-tables : (t lead loop : List ℕ) (v w : Verdict) → pslRefusal t ≡ none → 0 < size lead loop
       → PslJudges t lead loop v → LtlJudges (emitted (formulaOf t)) lead loop w → v ≡ w
   -- Lines: the two verdicts that a trace line is answered by agree on every trace with letters.
-  pub agree-lines : (f : Formula) (t : Trace) (v w : Verdict) → Judged f t v w → 0 < size (t .lead) (t .loop) → v ≡ w
+  pub agree-lines : (f : Formula) (t : TraceLists) (v w : Verdict) → Judged f t v w → 0 < size (t .lead) (t .loop) → v ≡ w
   -- A trace line has one answer.
   pub one-answer : (f : Formula) (line : List ℕ) (r q : Later) → LaterAnswer f line r → LaterAnswer f line q → r ≡ q
   -- An input has one output.
   pub one-output : (input out out′ : List ℕ) → Runs input out → Runs input out′ → out ≡ out′
   -- `none` is printed for the LTL verdict on the empty trace, and nowhere else.
-  pub none-ltl : (f : Formula) (t : Trace) (v w : Verdict) → Judged f t v w → (verdictText w ≡ text "none") ↔ (size (t .lead) (t .loop) ≡ 0)
-  pub none-psl : (f : Formula) (t : Trace) (v w : Verdict) → Judged f t v w → verdictText v ≡ text "none" → ⊥
+  pub none-ltl : (f : Formula) (t : TraceLists) (v w : Verdict) → Judged f t v w → (verdictText w ≡ text "none") ↔ (size (t .lead) (t .loop) ≡ 0)
+  pub none-psl : (f : Formula) (t : TraceLists) (v w : Verdict) → Judged f t v w → verdictText v ≡ text "none" → ⊥

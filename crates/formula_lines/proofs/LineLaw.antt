@@ -23,7 +23,7 @@ use Rattle.text.specs.Reading.{long, breaks, spells}
 use Rattle.formula_lines.specs.FormulaAnswer.{formulaLimits, formulaRefusal, FormulaAnswer}
 use Rattle.text.specs.Inner.Places.{byteAt, Stands, Agree, Begins, Stops, StopsLine}
 use Rattle.formula_lines.specs.Inner.Form.{Form, Sorted, bytes, closed, wide}
-use Rattle.formula_lines.specs.Inner.Reader.{FormOf, filled, FormStands, SpellsFormula, WholeStands, WholeRead}
+use Rattle.formula_lines.specs.Inner.Reader.{FormOf, withNodes, FormStands, SpellsFormula, WholeStands, WholeRead}
 use Rattle.formula_lines.specs.declared.FormulaLine.the-variants.{Nodes, Refused}
 use Rattle.formula_lines.specs.declared.Read.{Read}
 use Rattle.formula_lines.specs.declared.Read.the-variants.{Found, FaultAt}
@@ -118,7 +118,7 @@ module _ {s : List ℕ} (o : Psl s) where
           counted = sym (a .counted [] refl) ∙ ap length nodes-of;
           few = omega (arith, a .few);
           signals = a .signals ∙ ap wide (sym same) ∙ wide-large g;
-          written = λ x. a .written x l [] refl refl ∙ ap (filled l) nodes-of;
+          written = λ x. a .written x l [] refl refl ∙ ap (withNodes l) nodes-of;
         },
       )
         where
@@ -168,9 +168,9 @@ module _ {s : List ℕ} (l : List ℕ) {f : Formula} {nodes : ℕ} {large : Bool
           go r y ∙ front-sets (numbersOf (closingNodes f)) l (omega (arith, x .counted, length-numbers (closingNodes f))),
         )
           where
-            go : (r : Read) → WholeRead s l m r → m ≡ filled l (closingNodes f)
+            go : (r : Read) → WholeRead s l m r → m ≡ withNodes l (closingNodes f)
             go (FaultAt p) z = absurd (z .none s (agree-self (suc p) s) (f, x .is))
             go (Found end n w) (g, z) =
                 let d = formula-injective f g (sym (x .is) ∙ z .is) in
                 z .written (z .signals ∙ ap largeSignal (sym d) ∙ sym (x .signals) ∙ j)
-                ∙ ap (λ (u : Formula). filled l (closingNodes u)) (sym d)
+                ∙ ap (λ (u : Formula). withNodes l (closingNodes u)) (sym d)

@@ -19,7 +19,7 @@ use Rattle.text.specs.Inner.Number.{Numeral, Numbered}
 use Rattle.text.specs.Inner.Scan.{NumberStands}
 use Rattle.formula_lines.specs.Inner.Form.{Form, truth, signal, one, two, keyword, arity, leftSort, rightSort, kinds, Sorted, OfKind, bytes, inner, closed, wide}
 use Rattle.text.specs.Inner.Words.{elem}
-use Rattle.formula_lines.specs.Inner.Reader.{KeywordOf, InBrackets, FormOf, OperandsOf, filled, FormStands, Ended, OperandsStand}
+use Rattle.formula_lines.specs.Inner.Reader.{KeywordOf, InBrackets, FormOf, OperandsOf, withNodes, FormStands, Ended, OperandsStand}
 use Rattle.text.proofs.PlaceLaw.{agree-byte, byte-drop, stands-one, stands-join, stops-here, halts-first, begins-first, halts-after}
 use Rattle.text.proofs.ScanLaw.{no-digit-agree}
 use Rattle.table.proofs.StoreLaw.{sets-sets, numbers-more}
@@ -28,8 +28,8 @@ use Rattle.table.proofs.CheckLaw.{either-false}
 
 -- ── The lent list ──
 
-filled-more : (l : List ℕ) (ns : List Node) (n k a b : ℕ) → length ns ≡ n → sets (filled l ns) (3 * n) (k ∷ a ∷ b ∷ []) ≡ filled l (ns ▸ node k a b)
-filled-more l ns n k a b e =
+with-nodes-more : (l : List ℕ) (ns : List Node) (n k a b : ℕ) → length ns ≡ n → sets (withNodes l ns) (3 * n) (k ∷ a ∷ b ∷ []) ≡ withNodes l (ns ▸ node k a b)
+with-nodes-more l ns n k a b e =
     sets-sets (numbersOf ns) (k ∷ a ∷ b ∷ []) l 0 (3 * n) (omega (arith, length-numbers ns)) ∙ ap (sets l 0) (sym (numbers-more ns k a b))
 
 some-form : (so : ℕ) → FormOf so (bytes (sample so))
@@ -75,7 +75,7 @@ true-stands s at n p l l′ h a e d =
       few = omega arith;
       counted = λ ns c. length-more ns (node 0 0 0) ∙ ap (λ (m : ℕ). m + 1) c;
       signals = refl;
-      written = λ _ l₀ ns c f. d ∙ ap (λ (x : List ℕ). sets x (3 * n) (0 ∷ 0 ∷ 0 ∷ [])) f ∙ filled-more l₀ ns n 0 0 0 c;
+      written = λ _ l₀ ns c f. d ∙ ap (λ (x : List ℕ). sets x (3 * n) (0 ∷ 0 ∷ 0 ∷ [])) f ∙ with-nodes-more l₀ ns n 0 0 0 c;
     }
 
 -- ── A signal ──
@@ -108,7 +108,7 @@ module _ (s : List ℕ) (at n next v : ℕ) (l : List ℕ) (h : n ≤ at) (a : N
         signals = b;
         written = λ x l₀ ns e d.
             ap (λ (y : List ℕ). sets y (3 * n) (1 ∷ left ∷ 0 ∷ [])) d
-            ∙ ap (λ (i : ℕ). sets (filled l₀ ns) (3 * n) (1 ∷ i ∷ 0 ∷ [])) (c x) ∙ filled-more l₀ ns n 1 v 0 e;
+            ∙ ap (λ (i : ℕ). sets (withNodes l₀ ns) (3 * n) (1 ∷ i ∷ 0 ∷ [])) (c x) ∙ with-nodes-more l₀ ns n 1 v 0 e;
       }
 
   pub signal-small : v < signals → (f : Form) × OfKind 1 f × OperandsStand f s at n next n 1 v 0 false l l
@@ -261,8 +261,8 @@ module _ {s : List ℕ} {at : ℕ} (k : ℕ) where
         written = λ x l₀ ns c d.
             let i = a .counted ns c in
             ap (λ (y : List ℕ). sets y (3 * nodes) (k ∷ (nodes - 1) ∷ 0 ∷ [])) (a .written x l₀ ns c d)
-            ∙ filled-more l₀ (closed f ns) nodes k (nodes - 1) 0 i
-            ∙ ap (λ (j : ℕ). filled l₀ (closed f ns ▸ node k (j - 1) 0)) (sym i);
+            ∙ with-nodes-more l₀ (closed f ns) nodes k (nodes - 1) 0 i
+            ∙ ap (λ (j : ℕ). withNodes l₀ (closed f ns ▸ node k (j - 1) 0)) (sym i);
       },
     )
 
@@ -317,8 +317,8 @@ module _ {s : List ℕ} {at : ℕ} (k : ℕ) where
                 let j = a .counted ns i in
                 let r = c .counted (closed f ns) j in
                 ap (λ (y : List ℕ). sets y (3 * all) (k ∷ (nodes - 1) ∷ (all - 1) ∷ [])) (c .written q l₀ (closed f ns) j (a .written p l₀ ns i d))
-                ∙ filled-more l₀ (closed g (closed f ns)) all k (nodes - 1) (all - 1) r
-                ∙ ap (λ (m : ℕ). filled l₀ (closed g (closed f ns) ▸ node k (m - 1) (all - 1))) (sym j)
-                ∙ ap (λ (m : ℕ). filled l₀ (closed g (closed f ns) ▸ node k (last (closed f ns)) (m - 1))) (sym r);
+                ∙ with-nodes-more l₀ (closed g (closed f ns)) all k (nodes - 1) (all - 1) r
+                ∙ ap (λ (m : ℕ). withNodes l₀ (closed g (closed f ns) ▸ node k (m - 1) (all - 1))) (sym j)
+                ∙ ap (λ (m : ℕ). withNodes l₀ (closed g (closed f ns) ▸ node k (last (closed f ns)) (m - 1))) (sym r);
           },
         )

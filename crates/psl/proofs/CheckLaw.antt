@@ -20,7 +20,7 @@ use Rattle.table.specs.Inner.Place.{coded, codedRules, operandOr, bound, lowFit
 use Rattle.table.proofs.CheckLaw.{both-true, unless-none, or-none, Fits, Sound, node-none, node-sound, table-sound, sized, lowest-zero, lowest-next, lowest-some, none-below}
 use Rattle.table.proofs.PlaceLaw.{one-use}
 use Rattle.psl.specs.Check.{pslRules, one, names, namesAt, uses, useRefusal, rootRefusal, treeRefusal, pslRefusal, total}
-use Rattle.psl.specs.Inner.Counts.{LowPlace, Counted, Room, Tallied}
+use Rattle.psl.specs.Inner.Counts.{LowPlace, Counted, CountRoom, Tallied}
 
 -- The code's rules are those of PSL tables.
 pub rules-coded : Codes (codedRules pslRules) pslRules
@@ -172,13 +172,13 @@ module _ {t : List ℕ} {i : ℕ} {c : List ℕ} (T : Tallied t i c) (h : i < co
   abbrev low-place : (u : Use) (n : ℕ) {b : Bool} (p : ℕ) → p ≡ coded u → Fits pslRules u n i b → LowPlace p n i
   low-place u n p e f = record { meant = u; is = e; low = f .low; few = omega (arith, few) }
 
-  pub left-room : (p : ℕ) → p ≡ coded left → Room p (leftAt t i) c
+  pub left-room : (p : ℕ) → p ≡ coded left → CountRoom p (leftAt t i) c
   left-room p e =
       let r = room left (leftAt t i) (sound .left) in
       record { user = i; place = low-place left (leftAt t i) p e (sound .left); inside = r .0; room = omega (arith, r .1) }
 
   module _ (d : List ℕ) (L : Counted left (leftAt t i) c d) where
-    pub right-room : (p : ℕ) → p ≡ coded right → Room p (rightAt t i) d
+    pub right-room : (p : ℕ) → p ≡ coded right → CountRoom p (rightAt t i) d
     right-room p e =
         let at = operandOr right (rightAt t i) 0 in
         let r = room right (rightAt t i) (sound .right) in

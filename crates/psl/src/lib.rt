@@ -19,7 +19,7 @@ ghost use Rattle.table.specs.Check.{sortFits, isBoolean, refusalAt};
 ghost use Rattle.table.specs.Inner.Place.{coded, allFit};
 ghost use Rattle.table.specs.Inner.First.{FirstRefused};
 ghost use Rattle.psl.specs.Check.{pslRules, treeRefusal, pslRefusal};
-ghost use Rattle.psl.specs.Inner.Counts.{LowPlace, Counted, Room, Tallied};
+ghost use Rattle.psl.specs.Inner.Counts.{LowPlace, Counted, CountRoom, Tallied};
 ghost use Rattle.psl.specs.Answer.{PslChecks};
 
 // The kinds. The first are Booleans.
@@ -117,7 +117,7 @@ fn places_fit(p: u16, q: u16, i: NodeNo, l: u16, r: u16, t: &[u16]) -> bool
 
 // A place that holds n is counted: if that is an operand, it is used once more. Where it is none, nothing is added, at node 0: that takes no branch.
 fn count_place(p: u16, n: u16, c: &mut [u16])
-    requires { ⌜ Room p n (now c) ⌝ }
+    requires { ⌜ CountRoom p n (now c) ⌝ }
     ensures { λ _. ⌜ ((u : Use) → p ≡ coded u → Counted u n (now (c .entry)) (now (c .exit))) ⌝ }
 {
     let at = table::operand_of(p, n) as usize;

@@ -22,7 +22,7 @@ use Rattle.table.specs.Answer.{checked}
 use Rattle.table.specs.Node.{node}
 use Rattle.table.specs.Rules.{Use, unused, signal, operand, Sorts, Rules, known, shapeOf, booleanKind}
 use Rattle.table.specs.Check.{unusedFits, signalFits, operandFits, sortFits, sortRefusal, placesRefusal, nodeRefusal}
-use Rattle.table.specs.Inner.Place.{formulaCode, coded, operandOr, bound, mostKinds, places, booleans, sortNumber, Numbered, codedNumbers, Codes}
+use Rattle.table.specs.Inner.Place.{operandCode, coded, operandOr, bound, mostKinds, places, booleans, sortNumber, SortNumbered, codedNumbers, Codes}
 
 -- ── Places ──
 
@@ -34,7 +34,7 @@ pub record Decides (p : ℕ) (u : Use) : Type 0 where
   pub sort : (b : Bool) → ltb p 16383 || Bool·beq b (eqb p 32767) ≡ sortFits u b
   pub below : (i : ℕ) → 16383 ≤ p → i ≡ bound u i
   pub limit : (i : ℕ) → p < 16383 → p ≡ bound u i
-  pub named : (n i : ℕ) → n < bound u i → i < formulaCode → bitAnd n p ≡ operandOr u n 0
+  pub named : (n i : ℕ) → n < bound u i → i < operandCode → bitAnd n p ≡ operandOr u n 0
   pub one : p / 8192 % 2 ≡ operandOr u 1 0
 
 -- A number has no bit in common with a power of two above it, and all in common with ones.
@@ -148,7 +148,7 @@ module _ {C : CodeRules} {R : Rules} (c : Codes C R) (i k l r : ℕ) (lb rb : Bo
 
   -- The places answer where the kind is known.
   pub places-answer : ltb k (C .kinds) && ltb k mostKinds ≡ true → (a : Checked)
-      → ((R : Rules) (u : Use × Use) → Numbered (R .sorts) → C .numbers ≡ codedNumbers R → getD (C .left) k 0 ≡ coded (u .0) → getD (C .right) k 0 ≡ coded (u .1) → a ≡ checked (placesRefusal R u i l r lb rb))
+      → ((R : Rules) (u : Use × Use) → SortNumbered (R .sorts) → C .numbers ≡ codedNumbers R → getD (C .left) k 0 ≡ coded (u .0) → getD (C .right) k 0 ≡ coded (u .1) → a ≡ checked (placesRefusal R u i l r lb rb))
       → a ≡ checked (nodeRefusal R i (node k l r) lb rb)
   unfolding nodeRefusal
   places-answer e a f =
@@ -157,7 +157,7 @@ module _ {C : CodeRules} {R : Rules} (c : Codes C R) (i k l r : ℕ) (lb rb : Bo
       rw d (f R (shapeOf R k) (c .numbered) (ap (λ (D : CodeRules). D .numbers) (c .is)) (left-coded c k h) (right-coded c k h))
 
 -- The number 0 leaves the test of the sorts out.
-sorts-coded : (S : Option Sorts) → Numbered S → (u : Use × Use) (lb rb : Bool)
+sorts-coded : (S : Option Sorts) → SortNumbered S → (u : Use × Use) (lb rb : Bool)
     → unless (eqb (sortNumber S) 0 || sortFits (u .0) lb && sortFits (u .1) rb) (refused (sortNumber S)) none ≡ sortRefusal S u lb rb
 sorts-coded none n u lb rb = refl
 sorts-coded (some s) n u lb rb = rw (ne-eqb (s .number) 0 n)
@@ -171,7 +171,7 @@ module _ (u : Use × Use) (i l r : ℕ) (lb rb : Bool) where
       (unless (operandFits (u .0) l i && operandFits (u .1) r i) (refused (x .operand))
       (unless (eqb (x .sort) 0 || sortFits (u .0) lb && sortFits (u .1) rb) (refused (x .sort)) none)))
 
-  pub places-coded : (R : Rules) (x : CodeNumbers) → Numbered (R .sorts) → x ≡ codedNumbers R → byNumbers x ≡ placesRefusal R u i l r lb rb
+  pub places-coded : (R : Rules) (x : CodeNumbers) → SortNumbered (R .sorts) → x ≡ codedNumbers R → byNumbers x ≡ placesRefusal R u i l r lb rb
   unfolding placesRefusal
   places-coded R x n e =
       ap byNumbers e

@@ -12,7 +12,7 @@ ghost use Rattle.trace.specs.Refusal.{refused, unless};
 ghost use Rattle.table.specs.Answer.{checked};
 ghost use Rattle.table.specs.Rules.{Use, Rules as TableRules};
 ghost use Rattle.table.specs.Check.{lengthFits, unusedFits, signalFits, operandFits, sortFits, placesRefusal, nodeRefusal, refusalAt};
-ghost use Rattle.table.specs.Inner.Place.{formulaCode, coded, codedNumbers, operandOr, bound, lowFits, Numbered, Codes};
+ghost use Rattle.table.specs.Inner.Place.{operandCode, coded, codedNumbers, operandOr, bound, lowFits, SortNumbered, Codes};
 
 // The number of a node, counted from 0 along a table: never a point of time.
 pub struct NodeNo(pub u16);
@@ -96,7 +96,7 @@ fn bound(p: u16, i: NodeNo) -> u16
 // The operand of place p, which holds n; 0 where it has none. What was found low enough has no bit in common with a limit. An `if` became a
 // branch in the loop that counts uses.
 pub fn operand_of(p: u16, n: u16) -> u16
-    ensures { λ r. ⌜ ((u : Use) (i : ℕ) → p ≡ coded u → n < bound u i → i < formulaCode → r ≡ operandOr u n 0) ⌝ }
+    ensures { λ r. ⌜ ((u : Use) (i : ℕ) → p ≡ coded u → n < bound u i → i < operandCode → r ≡ operandOr u n 0) ⌝ }
 {
     n & p
 }
@@ -144,7 +144,7 @@ fn check_places(
     lb: bool,
     rb: bool,
 ) -> Checked
-    ensures { λ a. ⌜ ((R : TableRules) (u : Use × Use) → Numbered (R .sorts) → x ≡ codedNumbers R → p ≡ coded (u .0) → q ≡ coded (u .1) → a ≡ checked (placesRefusal R u (i .0) l r lb rb)) ⌝ }
+    ensures { λ a. ⌜ ((R : TableRules) (u : Use × Use) → SortNumbered (R .sorts) → x ≡ codedNumbers R → p ≡ coded (u .0) → q ≡ coded (u .1) → a ≡ checked (placesRefusal R u (i .0) l r lb rb)) ⌝ }
 {
     unless(
         unused_fits(p, l) & unused_fits(q, r),

@@ -11,10 +11,10 @@ use Rattle.trace.specs.Limits.{mostLetters}
 use Rattle.logic.specs.Trace.{size}
 use Rattle.trace.specs.Refusal.{refused}
 use Rattle.text.proofs.LimitsLaw.{passed, third}
-use Rattle.trace_lines.specs.Spelling.{Trace}
+use Rattle.trace_lines.specs.Spelling.{TraceLists}
 use Rattle.trace_lines.specs.TraceAnswer.{largeLetter, traceLimits, traceRefusal}
 
-module _ (t : Trace) where
+module _ (t : TraceLists) where
   abbrev letters : Bool
   letters = not (largeLetter (t .lead) || largeLetter (t .loop))
 

@@ -11,7 +11,7 @@ use lib.Seq.{sets, drop-length}
 use lib.Dec.{leb}
 use Rattle.trace.specs.Refusal.{refused}
 use Rattle.text.specs.Text.{text}
-use Rattle.trace_lines.specs.Spelling.{Trace, traceLine, lineOfTrace}
+use Rattle.trace_lines.specs.Spelling.{TraceLists, traceLine, lineOfTrace}
 use Rattle.text.specs.Limits.{mostBytes}
 use Rattle.text.specs.Reading.{long, breaks, spells}
 use Rattle.trace_lines.specs.TraceAnswer.{largeLetter, traceLimits, traceRefusal, TraceAnswer}
@@ -215,10 +215,10 @@ trace-injective lead (x ∷ loop) lead′ (y ∷ loop′) e =
     let (q, _) = list-unique (x ∷ loop) (y ∷ loop′) _ _ (append-cancel-left (text " (") _ _ d) in
     (p, q)
 
-abbrev trace : List ℕ → List ℕ → Trace
+abbrev trace : List ℕ → List ℕ → TraceLists
 trace lead loop = record { lead = lead; loop = loop }
 
-pub trace-alone : (t u : Trace) → lineOfTrace t ≡ lineOfTrace u → t ≡ u
+pub trace-alone : (t u : TraceLists) → lineOfTrace t ≡ lineOfTrace u → t ≡ u
 trace-alone t u e =
     let (p, q) = trace-injective (t .lead) (t .loop) (u .lead) (u .loop) e in
     ap (λ (x : List ℕ). trace x (t .loop)) p ∙ ap (trace (u .lead)) q
@@ -235,7 +235,7 @@ no-trace s l m {p} h a =
 -- The line spells lead and loop, of a and b letters; c to d′ are the lists of the reading without room.
 module _ {s : List ℕ} (l m lead loop : List ℕ) {a b : ℕ} {large : Bool} {c d c′ d′ : List ℕ} (h : length s ≤ mostBytes) (e : s ≡ traceLine lead loop)
     (x : ListsStand lead loop a b large c d c′ d′) where
-  abbrev t : Trace
+  abbrev t : TraceLists
   t = trace lead loop
 
   refuses : (n : ℕ) → traceRefusal (length l) (length m) t ≡ some (refused n) → TraceAnswer s l m (Refused (refused n)) l m

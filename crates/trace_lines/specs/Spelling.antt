@@ -5,7 +5,7 @@ use Rattle.text.specs.Text.{text}
 use Rattle.text.specs.Spelling.{digits, brackets}
 
 -- A trace as a line has it: its lead-in and its loop.
-pub record Trace : Type 0 where
+pub record TraceLists : Type 0 where
   pub lead : List ℕ
   pub loop : List ℕ
 
@@ -14,5 +14,5 @@ abbrev pub traceLine : List ℕ → List ℕ → List ℕ
 traceLine lead [] = brackets (text "finite" ∷ map digits lead)
 traceLine lead (x ∷ loop) = brackets (text "lasso" ∷ brackets (map digits lead) ∷ brackets (map digits (x ∷ loop)) ∷ [])
 
-abbrev pub lineOfTrace : Trace → List ℕ
+abbrev pub lineOfTrace : TraceLists → List ℕ
 lineOfTrace t = traceLine (t .lead) (t .loop)

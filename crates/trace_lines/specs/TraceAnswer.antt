@@ -11,7 +11,7 @@ use Rattle.trace.specs.Limits.{mostLetters}
 use Rattle.logic.specs.Trace.{size}
 use Rattle.trace.specs.declared.Refusal.{Refusal}
 use Rattle.trace.specs.Refusal.{refused, unless, orElse}
-use Rattle.trace_lines.specs.Spelling.{Trace, lineOfTrace}
+use Rattle.trace_lines.specs.Spelling.{TraceLists, lineOfTrace}
 use Rattle.text.specs.Limits.{front}
 use Rattle.text.specs.Reading.{Takes, Refuses}
 use Rattle.trace_lines.specs.declared.TraceLine.{TraceLine}
@@ -23,13 +23,13 @@ largeLetter [] = false
 largeLetter (x ∷ xs) = leb (2 ^ signals) x || largeLetter xs
 
 -- 21: a number that is no letter. 22: more letters than a verdict takes.
-unfoldable pub traceLimits : Trace → Option Refusal
+unfoldable pub traceLimits : TraceLists → Option Refusal
 traceLimits t =
     unless (not (largeLetter (t .lead) || largeLetter (t .loop))) (refused 21)
     (unless (leb (size (t .lead) (t .loop)) mostLetters) (refused 22) none)
 
 -- Then 23: a lent list has no room for its letters.
-unfoldable pub traceRefusal : ℕ → ℕ → Trace → Option Refusal
+unfoldable pub traceRefusal : ℕ → ℕ → TraceLists → Option Refusal
 traceRefusal room roomLoop t =
     orElse (traceLimits t) (unless (leb (length (t .lead)) room && leb (length (t .loop)) roomLoop) (refused 23) none)
 
@@ -37,6 +37,6 @@ traceRefusal room roomLoop t =
 -- lists as they were.
 abbrev pub TraceAnswer : List ℕ → List ℕ → List ℕ → TraceLine → List ℕ → List ℕ → Type 0
 TraceAnswer s l m (Letters a b) l′ m′ =
-    (t : Trace) × Takes lineOfTrace (traceRefusal (length l) (length m)) s t × (a ≡ length (t .lead)) × (b ≡ length (t .loop))
+    (t : TraceLists) × Takes lineOfTrace (traceRefusal (length l) (length m)) s t × (a ≡ length (t .lead)) × (b ≡ length (t .loop))
     × (l′ ≡ front (t .lead) l) × (m′ ≡ front (t .loop) m)
 TraceAnswer s l m (Refused e) l′ m′ = Refuses lineOfTrace (traceRefusal (length l) (length m)) s e × (l′ ≡ l) × (m′ ≡ m)

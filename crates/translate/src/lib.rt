@@ -93,7 +93,7 @@ fn literal(t: &[u16], i: NodeNo, a: NodeNo, r: NodeNo, out: &mut [u16], n: NodeN
     gate(out, x, a, r)
 }
 
-// The LTL kind of an and or an until.
+// The LTL kind of an and or an until: until is 9 in a PSL table and 6 in an LTL table, and is 3.
 fn joining(kind: u16) -> u16
     ensures { λ k. ⌜ k ≡ cond (eqb kind 9) 6 3 ⌝ }
 {

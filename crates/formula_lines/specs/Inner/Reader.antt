@@ -47,8 +47,8 @@ abbrev pub OperandsOf : ℕ → Language
 OperandsOf k w = (f : Form) × OfKind k f × (w ≡ inner f ++ text ")")
 
 -- A list whose front holds the numbers of some nodes.
-abbrev pub filled : List ℕ → List Node → List ℕ
-filled l ns = sets l 0 (numbersOf ns)
+abbrev pub withNodes : List ℕ → List Node → List ℕ
+withNodes l ns = sets l 0 (numbersOf ns)
 
 -- A form that was read from place `at` and node n on: the count of nodes, whether a signal is too large, and the list l′ that the list l
 -- became.
@@ -59,7 +59,7 @@ pub record FormStands (f : Form) (s : List ℕ) (at n next nodes : ℕ) (large :
   pub few : nodes ≤ next
   pub counted : (ns : List Node) → length ns ≡ n → length (closed f ns) ≡ nodes
   pub signals : large ≡ wide f
-  pub written : large ≡ false → (l₀ : List ℕ) (ns : List Node) → length ns ≡ n → l ≡ filled l₀ ns → l′ ≡ filled l₀ (closed f ns)
+  pub written : large ≡ false → (l₀ : List ℕ) (ns : List Node) → length ns ≡ n → l ≡ withNodes l₀ ns → l′ ≡ withNodes l₀ (closed f ns)
 
 abbrev pub FormRead : ℕ → List ℕ → ℕ → ℕ → List ℕ → List ℕ → Read → Type 0
 FormRead so s at n l l′ (Read.Found next nodes large) = (f : Form) × Sorted so f × FormStands f s at n next nodes large l l′
@@ -81,8 +81,8 @@ pub record OperandsStand (f : Form) (s : List ℕ) (at n next nodes kind left ri
   pub few : nodes ≤ next
   pub counted : (ns : List Node) → length ns ≡ n → length (closed f ns) ≡ nodes + 1
   pub signals : large ≡ wide f
-  pub written : large ≡ false → (l₀ : List ℕ) (ns : List Node) → length ns ≡ n → l ≡ filled l₀ ns
-      → sets l′ (3 * nodes) (kind ∷ left ∷ right ∷ []) ≡ filled l₀ (closed f ns)
+  pub written : large ≡ false → (l₀ : List ℕ) (ns : List Node) → length ns ≡ n → l ≡ withNodes l₀ ns
+      → sets l′ (3 * nodes) (kind ∷ left ∷ right ∷ []) ≡ withNodes l₀ (closed f ns)
 
 abbrev pub OperandsRead : ℕ → List ℕ → ℕ → ℕ → List ℕ → List ℕ → Operands → Type 0
 OperandsRead kind s at n l l′ (Operands.Found next nodes left right large) =
@@ -99,7 +99,7 @@ pub record WholeStands (f : Formula) (s : List ℕ) (nodes : ℕ) (large : Bool)
   pub counted : nodes ≡ length (closingNodes f)
   pub few : nodes ≤ length s
   pub signals : large ≡ largeSignal f
-  pub written : large ≡ false → l′ ≡ filled l (closingNodes f)
+  pub written : large ≡ false → l′ ≡ withNodes l (closingNodes f)
 
 abbrev pub WholeRead : List ℕ → List ℕ → List ℕ → Read → Type 0
 WholeRead s l l′ (Read.Found next nodes large) = (f : Formula) × WholeStands f s nodes large l l′

@@ -25,7 +25,7 @@ pub record LowPlace (p n i : ℕ) : Type 0 where
   pub few : i ≤ pslRules .most
 
 -- The code's place p, which holds n, is counted in c where there is room for one more.
-pub record Room (p n : ℕ) (c : List ℕ) : Type 0 where
+pub record CountRoom (p n : ℕ) (c : List ℕ) : Type 0 where
   pub user : ℕ
   pub place : LowPlace p n user
   pub inside : operandOr (place .meant) n 0 < length c

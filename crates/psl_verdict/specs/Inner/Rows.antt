@@ -18,6 +18,6 @@ pub record Marked (lead loop : List ℕ) (a r : ℕ) (x y : Ltl) : Type 0 where
 abbrev pub TellsFormula : List ℕ → List ℕ → Formula → ℕ → ℕ → ℕ → Type 0
 TellsFormula lead loop f a r w = (x y : Ltl) → Marked lead loop a r x y → Tells lead loop w (translated f x y)
 
--- A list has, for each signal that table t names, the signal's row.
+-- A list has, for each signal that table t names in a node of kind 1, var, the signal's row.
 pub record SignalRows (lead loop t vars : List ℕ) : Type 0 where
   pub row : (i : ℕ) → i < count t → kindAt t i ≡ 1 → Tells lead loop (getD vars (leftAt t i) 0) (lvar (leftAt t i))

@@ -16,13 +16,13 @@ use Rattle.table.specs.Check.{sortFits}
 -- ── Places ──
 
 -- Without an operand it is the limit of what the place holds; an operand's has all bits that a node's number can have.
-abbrev pub formulaCode : ℕ
-formulaCode = 16383
+abbrev pub operandCode : ℕ
+operandCode = 16383
 
 abbrev pub coded : Use → ℕ
 coded unused = 1
 coded signal = signals
-coded (operand false) = formulaCode
+coded (operand false) = operandCode
 coded (operand true) = 32767
 
 -- The number of an operand, or else m.
@@ -91,12 +91,12 @@ codedRules R =
     }
 
 -- Where there is a refusal of sorts, 0 is not its number.
-abbrev pub Numbered : Option Sorts → Type 0
-Numbered none = Unit {0}
-Numbered (some s) = s .number ≡ 0 → ⊥
+abbrev pub SortNumbered : Option Sorts → Type 0
+SortNumbered none = Unit {0}
+SortNumbered (some s) = s .number ≡ 0 → ⊥
 
 -- C are the rules R as the code holds them. There is room for all kinds.
 pub record Codes (C : CodeRules) (R : Rules) : Type 0 where
   pub is : C ≡ codedRules R
   pub room : length (R .kinds) ≤ mostKinds
-  pub numbered : Numbered (R .sorts)
+  pub numbered : SortNumbered (R .sorts)
