@@ -30,9 +30,9 @@ use Rattle.translate.specs.declared.Translation.{Translation}
 use Rattle.translate.specs.declared.Translation.the-variants as Translation
 use Rattle.translate.proofs.DeliversLaw.{size-most}
 use Rattle.translate.proofs.EmittedLaw.{emitted-accepted}
-use Rattle.psl_verdict.specs.Verdict.{PslJudges}
+use Rattle.psl_verdict.specs.Verdict.{pslVerdictRefusal, PslJudges}
+use Rattle.trace.proofs.JudgesLaw.{not-long}
 use Rattle.ltl_verdict.specs.Verdict.{LtlJudges}
-use Rattle.psl_verdict.proofs.JudgesLaw.{psl-fine}
 use Rattle.ltl_verdict.proofs.JudgesLaw.{ltl-fine, ltl-empty}
 use Rattle.formula_lines.specs.Spelling.{formulaLine}
 use Rattle.trace_lines.specs.Spelling.{TraceLists, lineOfTrace}
@@ -167,6 +167,7 @@ module _ (line l m : List ℕ) where
 
     pub later-judged : {psl ltl : List ℕ} {v w : Verdict} → PslJudges psl (take a l) (take b m) v → LtlJudges ltl (take a l) (take b m) w
         → (f : Formula) → TablesOf f psl ltl → LaterAnswer f line (Later.Verdicts v w)
+    unfolding pslVerdictRefusal
     later-judged {psl} {ltl} {v} {w} p q f s =
         let lead : take a l ≡ t .lead = ap (take a) (r .4) ∙ front-take (t .lead) room a (r .2) in
         let loop : take b m ≡ t .loop = ap (take b) (r .5) ∙ front-take (t .loop) room b (r .3) in
@@ -177,7 +178,7 @@ module _ (line l m : List ℕ) where
           taken,
           record {
             psl = subst (λ (g : Formula). VerdictOn (HoldsOn g (t .lead) (t .loop)) v) (ap formulaOf (s .read) ∙ closing-formula f)
-                (tells (HoldsOn (formulaOf psl) (t .lead) (t .loop)) v (psl-fine psl (t .lead) (t .loop) ok short) p′);
+                (tells (HoldsOn (formulaOf psl) (t .lead) (t .loop)) v (not-long (pslRefusal psl) (t .lead) (t .loop) ok short) p′);
             ltl = λ h. subst (λ (x : List ℕ). VerdictOn (LtlHoldsOn (treeOf x) (t .lead) (t .loop)) w) (s .translated)
                 (tells (LtlHoldsOn (treeOf ltl) (t .lead) (t .loop)) w (ltl-fine ltl (t .lead) (t .loop) ok′ short h) q′);
             empty = λ h. refused-by (LtlHoldsOn (treeOf ltl) (t .lead) (t .loop)) w (refused 16) (ltl-empty ltl (t .lead) (t .loop) ok′ short (omega arith)) q′;

@@ -12,7 +12,7 @@ use Rattle.ltl.specs.Check.{ltlRefusal}
 
 -- 11 to 15 of the table, then 9 and 16 of the trace.
 unfoldable pub ltlVerdictRefusal : List ℕ → List ℕ → List ℕ → Option Refusal
-ltlVerdictRefusal t lead loop = orElse (ltlRefusal t) (orElse (longRefusal lead loop) (emptyRefusal lead loop))
+ltlVerdictRefusal t lead loop = orElse (orElse (ltlRefusal t) (longRefusal lead loop)) (emptyRefusal lead loop)
 
 -- Whether the tree of the table holds on the trace, by the LTL meaning.
 abbrev pub LtlJudges : List ℕ → List ℕ → List ℕ → Verdict → Type 0

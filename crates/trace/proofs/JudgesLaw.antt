@@ -1,13 +1,31 @@
--- Verdicts in general: yes or no by a test, and that there is one.
+-- Verdicts in general: which refusal applies, yes or no by a test, and that there is one.
 use mathlib.Core.Path.{_≡_, refl, sym, subst, ap, _∙_}
 use mathlib.Core.Bool.{Bool, true, false, cond}
 use mathlib.Core.Logic.{_↔_}
-use mathlib.Core.Option.{Option, none, Option·some-ne-none}
+use mathlib.Core.Option.{Option, none, some, Option·some-ne-none}
+use mathlib.Core.List.{List}
+use Prim.Native.Nat.{ℕ, _≤_, _<_}
+use borrow.Author.Tests.{le-leb, lt-leb}
 use lib.Dec.{T}
+use Rattle.logic.specs.Trace.{size}
+use Rattle.trace.specs.Limits.{mostLetters}
 use Rattle.trace.specs.declared.Refusal.{Refusal}
 use Rattle.trace.specs.declared.Verdict.{Verdict}
 use Rattle.trace.specs.declared.Verdict.the-variants.{Yes, No, Refused}
-use Rattle.trace.specs.Verdict.{Judges}
+use Rattle.trace.specs.Refusal.{refused, orElse}
+use Rattle.trace.specs.Verdict.{longRefusal, Judges}
+
+-- The first refusal decides.
+pub refused-first : (o p : Option Refusal) {x : Refusal} → o ≡ some x → orElse o p ≡ some x
+refused-first o p e = rw e
+
+-- Where nothing else is refused, the letters decide.
+module _ (o : Option Refusal) (lead loop : List ℕ) (e : o ≡ none) where
+  pub too-long : mostLetters < size lead loop → orElse o (longRefusal lead loop) ≡ some (refused 9)
+  too-long h = rw (e, lt-leb (size lead loop) mostLetters h)
+
+  pub not-long : size lead loop ≤ mostLetters → orElse o (longRefusal lead loop) ≡ none
+  not-long h = rw (e, le-leb (size lead loop) mostLetters h)
 
 -- Nothing is refused, and a test decides the claim.
 pub judged : {o : Option Refusal} {A : Type 0} {v : Verdict} (b : Bool) → v ≡ cond b Yes No → o ≡ none → A ↔ T b → Judges o A v

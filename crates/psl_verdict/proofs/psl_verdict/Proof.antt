@@ -2,7 +2,8 @@
 use borrow.Author.Needs.{needs}
 use Rattle.table.proofs.CheckLaw.{accepted as accepted-none, was-refused}
 use Rattle.psl.specs.Check.{pslRefusal}
-use Rattle.psl_verdict.proofs.JudgesLaw.{psl-check}
+use Rattle.trace.proofs.JudgesLaw.{refused-first}
+use Rattle.psl_verdict.specs.Verdict.{pslVerdictRefusal}
 use Rattle.psl_verdict.proofs.psl_verdict.Statement.{statement}
 use Rattle.psl_verdict.proofs.psl_verdict.Tie as tie
 
@@ -26,12 +27,13 @@ judge-psl-requires c κs =
     accepted-none (pslRefusal t) (C .check-psl .result) (C .check-psl .ensures) (c .enum-told .given .1)
 
 returns : tie.Need-returns
+unfolding pslVerdictRefusal
 returns c =
     let X = c .before in
     let C = X .before .before in
     let a = start C .args in
     let x = was-refused (pslRefusal (a .t .now)) (C .check-psl .result) _ (C .check-psl .ensures) (X .x .given .1) in
-    psl-check (a .t .now) (a .lead .now) (a .cycle .now) x
+    refused-first (pslRefusal (a .t .now)) _ x
 
 returns-2 : tie.Need-returns-2
 returns-2 c = search needs
