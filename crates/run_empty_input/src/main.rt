@@ -1,4 +1,0 @@
-// A run on an empty input.
-fn main() {
-    turns::take_turns();
-}

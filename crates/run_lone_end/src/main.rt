@@ -1,4 +1,0 @@
-// A run on a lone byte 10.
-fn main() {
-    turns::take_turns();
-}
