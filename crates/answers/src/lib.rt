@@ -1,4 +1,6 @@
 // What a run answers to its lines: the first is a formula, each later one a trace.
+#![tactic(auto)]
+
 ghost use Rattle.std.specs.Prelude.{◌≡◌, ◌+◌, ◌-◌, ◌≤◌};
 ghost use Rattle.text.specs.Inner.Writer.{Wrote};
 ghost use Rattle.printing.specs.Limits.{most_later};
@@ -8,14 +10,14 @@ use printing::{put_refused, put_trace};
 use trace::{Refusal, Verdict};
 
 // The nodes of the PSL table and of the LTL table.
-#[derive(Drop)]
+#[derive(Clone, Copy)]
 pub enum First {
     Tables { psl: usize, ltl: usize },
     Refused(Refusal),
 }
 
 // Both verdicts, PSL and LTL.
-#[derive(Drop)]
+#[derive(Clone, Copy)]
 pub enum Later {
     Verdicts(Verdict, Verdict),
     Refused(Refusal),

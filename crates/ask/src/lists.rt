@@ -6,7 +6,7 @@ use logic::{LARGEST_LETTER, Letter};
 use text::put::{put_byte, put_number};
 
 // How many numbers a request has; or that something else stands there.
-#[derive(Drop)]
+#[derive(Clone, Copy)]
 pub struct Listed {
     pub count: usize,
     pub fault: bool,

@@ -1,4 +1,6 @@
 // A request a line on standard input; its answer, in words, on standard output.
+#![tactic(auto)]
+
 mod lists;
 mod look;
 mod requests;
@@ -58,7 +60,7 @@ fn keep(line: &mut [u8], n: usize, b: u16) -> usize {
 }
 
 // A line that was read: how long it is, and whether the input ends with it. After the input's last byte 10 there is none.
-#[derive(Drop)]
+#[derive(Clone, Copy)]
 struct Line {
     pub length: usize,
     pub last: bool,

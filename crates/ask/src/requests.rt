@@ -8,7 +8,7 @@ use crate::words::{LETTER, TRACE, request_of};
 use logic::Letter;
 
 // How much of each kept list is in use, how many places an operation is lent at most, and how many bytes the answer has.
-#[derive(Drop)]
+#[derive(Clone, Copy)]
 pub struct Kept {
     pub psl: usize,
     pub ltl: usize,

@@ -123,7 +123,7 @@ fn asked(line: &[u8], word: &[u8]) -> usize {
 }
 
 // A request's word, and the place after it; a line that is no request has the number of all requests.
-#[derive(Drop)]
+#[derive(Clone, Copy)]
 pub struct Request {
     pub word: u16,
     pub at: usize,
@@ -181,7 +181,7 @@ pub fn after(line: &[u8], at: usize) -> &[u8] {
 }
 
 // A number after one space, and the place after it; where none stands, the place itself.
-#[derive(Drop)]
+#[derive(Clone, Copy)]
 pub struct Argument {
     pub value: u64,
     pub next: usize,

@@ -2,6 +2,8 @@
 //
 // Lists come first and numbers after them, so that no list, which is two words, begins in the sixth word of a call: what begins there goes half in a register
 // here and in C, but not in Rust.
+#![tactic(auto)]
+
 ghost use Rattle.std.specs.Prelude.{◌≡◌, min, length};
 ghost use Rattle.std.proofs.lemmas.List.Edits.{sets};
 ghost use Rattle.logic.specs.Trace.{letter_at};

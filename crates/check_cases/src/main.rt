@@ -1,4 +1,6 @@
 // Runs both checks at the border of each refusal, and where two refusals apply at once: a line a case, with its answer.
+#![tactic(auto)]
+
 use libc::STDOUT_FILENO;
 use table::Checked;
 

@@ -1,4 +1,6 @@
 // The boundary for tests in Rust: each operation with its answer as one number.
+#![tactic(auto)]
+
 ghost use Rattle.std.specs.Prelude.{◌≡◌, ◌+◌, min, length};
 ghost use Rattle.std.proofs.lemmas.List.Edits.{sets};
 ghost use Rattle.logic.specs.Trace.{letter_at};

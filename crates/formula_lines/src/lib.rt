@@ -1,4 +1,6 @@
 // Formula lines: nested brackets, read by two functions that call each other.
+#![tactic(auto)]
+
 ghost use Rattle.std.specs.Prelude.{◌≡◌, ℕ, ◌+◌, ◌*◌, ◌<◌, ◌≤◌, List, [], ◌∷◌, length, set};
 ghost use Rattle.std.proofs.lemmas.List.Edits.{sets};
 ghost use Rattle.formula_lines.specs.Inner.Form.{keyword, shape as shape_of, kinds};
@@ -36,7 +38,7 @@ fn put_node(out: &mut [u16], n: usize, kind: u16, left: u16, right: u16)
 }
 
 // The keyword that stands at a place, or where none can follow.
-#[derive(Drop)]
+#[derive(Clone, Copy)]
 enum Keyword {
     Found { kind: u16, next: usize },
     FaultAt(usize),
@@ -99,7 +101,7 @@ fn read_keyword(s: &[u8], at: usize, sort: u16) -> Keyword
 }
 
 // How many forms a kind takes, and the sorts of the left and of the right one.
-#[derive(Drop)]
+#[derive(Clone, Copy)]
 struct Arity(pub u16, pub u16, pub u16);
 
 fn arity_of(kind: u16) -> Arity
@@ -124,7 +126,7 @@ fn arity_of(kind: u16) -> Arity
 }
 
 // A form that was read: where it ends, the count of nodes then, and whether a signal is too large. Or where none can follow.
-#[derive(Drop)]
+#[derive(Clone, Copy)]
 enum Read {
     Found {
         next: usize,
@@ -135,7 +137,7 @@ enum Read {
 }
 
 // The operands that were read, and what the node's two places hold.
-#[derive(Drop)]
+#[derive(Clone, Copy)]
 enum Operands {
     Found {
         next: usize,
@@ -300,7 +302,7 @@ fn read_whole(s: &[u8], out: &mut [u16]) -> Read
     }
 }
 
-#[derive(Drop)]
+#[derive(Clone, Copy)]
 pub enum FormulaLine {
     Nodes(usize),
     Refused(Refusal),

@@ -1,5 +1,7 @@
 // Lines at their borders: one printed line a case. A formula line answers its nodes, a trace line 100 for each letter of the lead-in and 1 for
 // each of the loop, a node line its bytes; a refusal is 10,000 and its number.
+#![tactic(auto)]
+
 ghost use Rattle.std.specs.Prelude.{◌≤◌, length};
 
 use formula_lines::{FormulaLine, read_formula};

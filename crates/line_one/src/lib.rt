@@ -1,4 +1,6 @@
 // Line 1 of a run: its formula is read and translated, and its answer is the first text that is gathered.
+#![tactic(auto)]
+
 ghost use Rattle.std.specs.Prelude.{◌≡◌, ◌*◌, length};
 ghost use Rattle.psl.specs.Check.{psl_rules};
 ghost use Rattle.ltl.specs.Check.{ltl_rules};

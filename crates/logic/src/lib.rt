@@ -1,4 +1,6 @@
 // The meanings of PSL and LTL, and that the translation keeps them: definitions in specs/, proofs in proofs/. The code is what a letter is.
+#![tactic(auto)]
+
 ghost use Rattle.std.specs.Prelude.{◌≡◌};
 ghost use Rattle.logic.specs.Letter.{bit};
 

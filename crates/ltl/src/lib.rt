@@ -1,4 +1,6 @@
 // LTL tables and their check.
+#![tactic(auto)]
+
 ghost use Rattle.std.specs.Prelude.{◌≡◌, ◌<◌};
 ghost use Rattle.table.specs.Node.{count};
 ghost use Rattle.table.specs.Answer.{checked};

@@ -1,4 +1,6 @@
 // The LTL verdict.
+#![tactic(auto)]
+
 ghost use Rattle.std.specs.Prelude.{◌≡◌, ◌↔◌, ◌<◌, ◌≤◌, T, length, get_or};
 ghost use Rattle.std.proofs.Math.Option.{none};
 ghost use Rattle.table.specs.Node.{count};

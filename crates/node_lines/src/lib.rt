@@ -1,4 +1,6 @@
 // Node lines: `(I kind)`, `(I kind P)` or `(I kind P Q)`, and byte 10.
+#![tactic(auto)]
+
 ghost use Rattle.std.specs.Prelude.{◌≡◌, length, false};
 ghost use Rattle.table.specs.Node.{node};
 ghost use Rattle.table.specs.Answer.{checked};
@@ -74,7 +76,7 @@ pub fn put_line(out: &mut [u8], at: usize, no: NodeNo, kind: u16, left: u16, rig
     put_text(out, e, b")\n")
 }
 
-#[derive(Drop)]
+#[derive(Clone, Copy)]
 pub enum NodeLine {
     Bytes(usize),
     Refused(Refusal),

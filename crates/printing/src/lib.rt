@@ -1,4 +1,6 @@
 // The text of a run's answers, put into a lent list.
+#![tactic(auto)]
+
 ghost use Rattle.std.specs.Prelude.{◌+◌, ◌≤◌};
 ghost use Rattle.text.specs.Inner.Writer.{Wrote};
 ghost use Rattle.printing.specs.Printed.{refused_text, verdict_text, trace_text};

@@ -1,4 +1,6 @@
 // What the programs of cases print.
+#![tactic(auto)]
+
 use libc::STDOUT_FILENO;
 
 // A line: a name and a number.

@@ -1,4 +1,6 @@
 // Rows: the truths of an LTL tree at all moments of a trace, in one word. not, and, or are one operation of the machine; RowLaw has what they tell.
+#![tactic(auto)]
+
 ghost use Rattle.std.specs.Prelude.{◌≡◌, ℕ, ◌<◌, ◌≤◌, T, ◌↔◌, List, ◌++◌, length, ◌≢◌};
 ghost use Rattle.logic.specs.Letter.{bit, signals};
 ghost use Rattle.logic.specs.Trace.{size};

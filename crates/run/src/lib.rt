@@ -1,4 +1,6 @@
 // A run as a stream of bytes: lines are cut off, answered, and the answers gathered.
+#![tactic(auto)]
+
 ghost use Rattle.std.specs.Prelude.{◌≡◌, true, ◌+◌, ◌<◌, ◌≤◌, length};
 ghost use Rattle.logic.specs.Formula.{Formula};
 ghost use Rattle.answers.specs.Answer.{LaterAnswer};

@@ -1,4 +1,6 @@
 // The state of a run between two blocks, and whether a block can be taken from it.
+#![tactic(auto)]
+
 ghost use Rattle.std.specs.Prelude.{◌≡◌};
 ghost use Rattle.answers.specs.Inner.{Accepted};
 ghost use Rattle.state.specs.Inner.{Ready, ListsFit, CountsFit, Tested, stopped};
@@ -29,7 +31,7 @@ pub const OUT_ROOM: usize = MOST_FIRST + MOST_LATER * BLOCK + MOST_LATER + 1;
 pub const LAST_LINE: u64 = u64::MAX - BLOCK as u64;
 
 // What a run is made of between two bytes.
-#[derive(Drop)]
+#[derive(Clone, Copy)]
 pub struct State {
     // The number of the line, from 1, and how many of its bytes are kept.
     pub number: u64,

@@ -1,4 +1,6 @@
 // Tables of triples: what PSL and LTL tables share.
+#![tactic(auto)]
+
 ghost use Rattle.std.specs.Prelude.{◌≡◌, ◌&&◌, ℕ, ◌<◌, get_or};
 ghost use Rattle.std.proofs.Math.Option.{Option};
 ghost use Rattle.trace.specs.declared.Refusal.{Refusal};
@@ -13,7 +15,7 @@ use logic::SIGNALS;
 use trace::Refusal;
 
 // The number of a node, counted from 0 along a table: never a point of time.
-#[derive(Drop)]
+#[derive(Clone, Copy)]
 pub struct NodeNo(pub u16);
 
 // How many kinds a table can have.
@@ -30,7 +32,7 @@ pub const FORMULA: u16 = 16383;
 pub const BOOLEAN: u16 = 32767;
 
 // The numbers of the refusals, each by what is wrong. Where there are no sorts, that refusal has the number 0, and the test is left out.
-#[derive(Drop)]
+#[derive(Clone, Copy)]
 pub struct Numbers {
     pub kind: u8,
     pub unused: u8,
@@ -41,7 +43,7 @@ pub struct Numbers {
 
 // The rules of a table: what stands left, and what stands right, kind by kind; how many kinds there are, and how many of these, the first, are
 // Booleans.
-#[derive(Drop)]
+#[derive(Clone, Copy)]
 pub struct Rules {
     pub left: [u16; MOST_KINDS],
     pub right: [u16; MOST_KINDS],
@@ -50,7 +52,7 @@ pub struct Rules {
     pub numbers: Numbers,
 }
 
-#[derive(Drop)]
+#[derive(Clone, Copy)]
 pub enum Checked {
     Accepted,
     Refused(Refusal),

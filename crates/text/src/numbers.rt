@@ -19,7 +19,7 @@ fn digit(s: &[u8], at: usize) -> u64
 }
 
 // A number so far, or that it is above the limit.
-#[derive(Drop)]
+#[derive(Clone, Copy)]
 struct Count {
     pub value: u64,
     pub large: bool,
@@ -51,7 +51,7 @@ fn push(c: Count, digit: u64, limit: u64) -> Count
 }
 
 // A number within the limit, one above it, or none: in each case with the place at which the reader stopped.
-#[derive(Drop)]
+#[derive(Clone, Copy)]
 pub enum Number {
     Small { value: u64, next: usize },
     Large(usize),

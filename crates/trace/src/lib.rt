@@ -1,4 +1,6 @@
 // Traces: the letter of a moment, and the rest of the list that a moment falls in; what a verdict on a trace answers.
+#![tactic(auto)]
+
 ghost use Rattle.std.specs.Prelude.{◌≡◌, cond};
 ghost use Rattle.trace.specs.Answer.{LetterIs, RestIs};
 
@@ -8,20 +10,20 @@ use logic::Letter;
 pub const MOST_LETTERS: usize = 64;
 
 // A point of time, counted from 0 along a trace.
-#[derive(Drop)]
+#[derive(Clone, Copy)]
 pub struct Moment(pub usize);
 
 // The number of a refusal.
-#[derive(Drop)]
+#[derive(Clone, Copy)]
 pub struct Refusal(pub u8);
 
-#[derive(Drop)]
+#[derive(Clone, Copy)]
 pub enum Found {
     Letter(Letter),
     Refused(Refusal),
 }
 
-#[derive(Drop)]
+#[derive(Clone, Copy)]
 pub enum Verdict {
     Yes,
     No,
@@ -67,7 +69,7 @@ pub fn rest<'a>(lead: &'a [Letter], cycle: &'a [Letter], m: Moment) -> &'a [Lett
 }
 
 // A trace looked at through its two lists.
-#[derive(Drop)]
+#[derive(Clone, Copy)]
 pub struct TraceView<'a> {
     pub lead: &'a [Letter],
     pub cycle: &'a [Letter],

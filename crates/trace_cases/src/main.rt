@@ -1,4 +1,6 @@
 // The letter of a moment and the rest of the list that it falls in, at the borders: from the two lists, and by way of the view.
+#![tactic(auto)]
+
 use libc::STDOUT_FILENO;
 use logic::Letter;
 use report::{say, show_letters};

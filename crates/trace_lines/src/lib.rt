@@ -1,4 +1,6 @@
 // Trace lines: `(finite N N)` or `(lasso (N N) (N N))`.
+#![tactic(auto)]
+
 ghost use Rattle.std.specs.Prelude.{◌≡◌, List, ℕ, ◌≤◌, length, set};
 ghost use Rattle.text.specs.Limits.{most_bytes};
 ghost use Rattle.trace_lines.specs.TraceAnswer.{TraceAnswer};
@@ -24,7 +26,7 @@ fn put_letter(out: &mut [Letter], at: usize, v: Letter)
 }
 
 // Letters that were read: where they end, the count of letters then, and whether one is too large. Or where none can follow.
-#[derive(Drop)]
+#[derive(Clone, Copy)]
 enum Letters {
     Found {
         next: usize,
@@ -129,7 +131,7 @@ fn read_list(s: &[u8], at: usize, out: &mut [Letter]) -> Letters
 }
 
 // How many letters the two lists have, and whether one is too large. Or where no line can follow.
-#[derive(Drop)]
+#[derive(Clone, Copy)]
 enum Lists {
     Found {
         lead: usize,
@@ -214,7 +216,7 @@ fn read_lists(s: &[u8], lead: &mut [Letter], cycle: &mut [Letter]) -> Lists
     Lists::FaultAt(p)
 }
 
-#[derive(Drop)]
+#[derive(Clone, Copy)]
 pub enum TraceLine {
     Letters { lead: usize, cycle: usize },
     Refused(Refusal),

@@ -1,4 +1,6 @@
 // The translation from PSL tables to LTL tables.
+#![tactic(auto)]
+
 ghost use Rattle.std.specs.Prelude.{◌≡◌, cond, ◌++◌, ◌+◌, ◌*◌, ◌<◌, ◌≤◌, length, set, drop, eqb};
 ghost use Rattle.std.proofs.Math.Option.{none};
 ghost use Rattle.table.specs.Node.{node, ◌▸◌, count, kind_at};
@@ -174,7 +176,7 @@ fn emit(t: &[u16], out: &mut [u16])
     walk(t, root, one, one, out, one);
 }
 
-#[derive(Drop)]
+#[derive(Clone, Copy)]
 pub enum Translation {
     Nodes(usize),
     Refused(Refusal),

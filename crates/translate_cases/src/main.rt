@@ -1,4 +1,6 @@
 // The translator at its borders: one line a case, S or the refusal, and what stands in the lent list.
+#![tactic(auto)]
+
 ghost use Rattle.std.specs.Prelude.{◌≡◌, length};
 
 use report::{say, show};

@@ -1,4 +1,6 @@
 // A run on standard input and output: each turn reads a block, has it taken, and writes what it printed.
+#![tactic(auto)]
+
 ghost use Rattle.std.specs.Prelude.{◌≡◌, ◌⊎◌, true, length};
 ghost use Rattle.state.specs.Inner.{Within, ListsFit, stopped, idle};
 ghost use Rattle.turns.specs.Turn.{Turned};

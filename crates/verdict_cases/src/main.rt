@@ -1,4 +1,6 @@
 // Both verdicts on the sentences with known verdicts, c1 to c12, the LTL one on the emitted table; then the borders. One line a case.
+#![tactic(auto)]
+
 use logic::Letter;
 use report::say;
 use trace::Verdict;
