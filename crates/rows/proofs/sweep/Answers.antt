@@ -10,5 +10,5 @@ use Rattle.rows.proofs.sweep.Goals as goal
 
 pub returns : goal.returns
 returns c = let a = c.args in
-    let e = c.wrapping_add_u64-sum.ensures ∙ ap (λ (x : ℕ). (x + bit_and a.carry 1) % 2 ^ most_letters) c.wrapping_add_u64.ensures in
+    let e = c.wrapping_add_u64-sum.ensures.value ∙ ap (λ (x : ℕ). (x + bit_and a.carry 1) % 2 ^ most_letters) c.wrapping_add_u64.ensures.value in
     subst (λ (x : ℕ). Swept a.f a.g (bit a.carry 0) (bit_or a.g (bit_and a.f (2 ^ most_letters - 1 - x)))) (sym e) (swept a.f a.g a.carry)
