@@ -8,10 +8,10 @@ use Rattle.psl_verdict.proofs.psl_verdict.Goals as goal
 
 pub judge_psl-requires : goal.judge_psl-requires
 judge_psl-requires c = let t = c.args.t.now in
-    accepted-none (psl_refusal t) c.check_psl.result c.check_psl.ensures c.enum_told-1.given.1
+    accepted-none (psl_refusal t) c.check_psl.result c.check_psl.ensures c.in-Accepted.is
 
 pub returns-in-Refused : goal.returns-in-Refused
 unfolding psl_verdict_refusal
 returns-in-Refused c = let a = c.args in
-    let x = was_refused (psl_refusal a.t.now) c.check_psl.result _ c.check_psl.ensures c.x-1.given.1 in
+    let x = was_refused (psl_refusal a.t.now) c.check_psl.result _ c.check_psl.ensures c.in-Refused.is in
     refused-first (psl_refusal a.t.now) _ x
