@@ -2,7 +2,7 @@
 use Rattle.std.proofs.Common.{rules}
 use native.Mathlib.Omega.{arith}
 use mathlib.Core.Path.{◌≡◌, refl, subst, ◌∙◌}
-use Prim.Native.Nat.{ℕ, ◌+◌, ◌-◌, ◌≤◌, ◌<◌}
+use Prim.Native.Nat.{ℕ, ◌+◌, ◌<◌}
 use lib.ListN.{length, get_or, set, length-set}
 use Rattle.logic.specs.Letter.{signals}
 use Rattle.table.specs.Node.{count, kind_at, left_at, right_at}
@@ -64,21 +64,21 @@ loop-i-preserved c =
     let I = c.loop-i.invariant in
     let few = c.requires.1 in
     let next : (length c.if-kind-eq-VAR.told ≡ length a.told.now) × (length c.if-kind-eq-VAR.vars ≡ signals)
-        × FirstRows a.lead.now a.cycle.now t (i + 1) c.if-kind-eq-VAR.told
-        × RowsKnown a.lead.now a.cycle.now c.if-kind-eq-VAR.known c.if-kind-eq-VAR.vars =
-        elim c.if-kind-eq-VAR.branch [
-          | then-kind-eq-VAR w ↦
-            let K = w.learn-known.ensures few (signal-below u w.if-kind-eq-VAR.true) (omega (arith, I.3)) I.5 in
-            let row = K.0.row (left_at t i) (signal-below u w.if-kind-eq-VAR.true) K.1 in
-            rw (w.told-is, w.vars-is, w.known-is)
-            (simp length-set I.2, w.learn-known.auto.rows ∙ I.3, one_more u _ (tells-signal w.if-kind-eq-VAR.true row), K.0)
-          | else-kind-eq-VAR w ↦
-            let node = TellsNode a.lead.now a.cycle.now (kind_at t i) (left_at t i) in
-            let N = w.node_row.ensures a.lead.now a.cycle.now (left_at t i) few refl w.if-kind-eq-VAR.false in
-            let M = subst (λ (y : ℕ). node (get_or W (left_at t i) 0) y w.node_row.result) w.row_at-b.ensures
-                (subst (λ (x : ℕ). node x w.row_at-b.result w.node_row.result) w.row_at-a.ensures N) in
-            rw (w.told-is, w.vars-is, w.known-is) (simp length-set I.2, I.3, one_more u w.node_row.result M, I.5)
-        ] in
+    × FirstRows a.lead.now a.cycle.now t (i + 1) c.if-kind-eq-VAR.told
+    × RowsKnown a.lead.now a.cycle.now c.if-kind-eq-VAR.known c.if-kind-eq-VAR.vars =
+    elim c.if-kind-eq-VAR.branch [
+      | then-kind-eq-VAR w ↦
+          let K = w.learn-known.ensures few (signal-below u w.if-kind-eq-VAR.true) (omega (arith, I.3)) I.5 in
+          let row = K.0.row (left_at t i) (signal-below u w.if-kind-eq-VAR.true) K.1 in
+          rw (w.told-is, w.vars-is, w.known-is)
+          (simp length-set I.2, w.learn-known.auto.rows ∙ I.3, one_more u _ (tells-signal w.if-kind-eq-VAR.true row), K.0)
+      | else-kind-eq-VAR w ↦
+          let node = TellsNode a.lead.now a.cycle.now (kind_at t i) (left_at t i) in
+          let N = w.node_row.ensures a.lead.now a.cycle.now (left_at t i) few refl w.if-kind-eq-VAR.false in
+          let M = subst (λ (y : ℕ). node (get_or W (left_at t i) 0) y w.node_row.result) w.row_at-b.ensures
+          (subst (λ (x : ℕ). node x w.row_at-b.result w.node_row.result) w.row_at-a.ensures N) in
+          rw (w.told-is, w.vars-is, w.known-is) (simp length-set I.2, I.3, one_more u w.node_row.result M, I.5)
+    ] in
     (I.0, omega arith, next.0, next.1, next.2, next.3)
 
 pub returns : goal.returns

@@ -1,5 +1,4 @@
 -- `ltl_verdict::ltl_holds` meets its contract: the root's row, at moment 0.
-use Rattle.std.proofs.Common.{rules}
 use native.Mathlib.Omega.{arith}
 use mathlib.Core.Path.{refl}
 use mathlib.Core.List.{List}

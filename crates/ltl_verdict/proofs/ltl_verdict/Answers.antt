@@ -1,5 +1,4 @@
 -- `ltl_verdict::ltl_verdict` meets its contract: the table's refusal, or the verdict on an accepted table.
-use Rattle.std.proofs.Common.{rules}
 use Rattle.table.proofs.CheckLaw.{accepted as accepted-none, was_refused}
 use Rattle.ltl.specs.Check.{ltl_refusal}
 use Rattle.ltl_verdict.proofs.JudgesLaw.{ltl_check}

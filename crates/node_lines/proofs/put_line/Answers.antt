@@ -1,5 +1,4 @@
 -- The parts, one after the other.
-use Rattle.std.proofs.Common.{rules}
 use mathlib.Core.Path.{subst}
 use Prim.Native.Nat.{ℕ}
 use Rattle.text.specs.Inner.Writer.{Wrote}

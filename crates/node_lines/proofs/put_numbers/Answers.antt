@@ -1,5 +1,4 @@
 -- None, one or two numbers.
-use Rattle.std.proofs.Common.{rules}
 use Rattle.node_lines.proofs.WriterLaw.{no_number, one_number, two-numbers}
 use Rattle.node_lines.proofs.put_numbers.Goals as goal
 

@@ -1,5 +1,4 @@
 -- Each kind writes its word.
-use Rattle.std.proofs.Common.{rules}
 use mathlib.Core.Path.{sym, subst}
 use Prim.Native.Nat.{ℕ}
 use Rattle.node_lines.specs.Spelling.{ltl_word}

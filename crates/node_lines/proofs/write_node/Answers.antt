@@ -1,10 +1,6 @@
 -- Each refusal first; then the line written aside gives its length, and its bytes are put into the lent list.
-use Rattle.std.proofs.Common.{rules}
 use native.Mathlib.Omega.{arith}
-use mathlib.Core.Path.{sym}
-use lib.Seq.{length-take-le}
 use Rattle.node_lines.proofs.WriterLaw.{line_length}
-use Rattle.text.proofs.WriterLaw.{wrote-length}
 use Rattle.node_lines.proofs.NodeLaw.{own_large, faulty, no_room, line_written}
 use Rattle.node_lines.proofs.write_node.Goals as goal
 

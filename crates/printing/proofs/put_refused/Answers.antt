@@ -1,5 +1,4 @@
 -- The parts, one after the other.
-use Rattle.std.proofs.Common.{rules}
 use native.Mathlib.Omega.{arith}
 use Rattle.text.proofs.WriterLaw.{wrote_end}
 use Rattle.printing.proofs.PrintedLaw.{refused-wrote, refused-short}

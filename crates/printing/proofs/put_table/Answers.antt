@@ -1,12 +1,8 @@
 -- The head, then a line a node.
 use Rattle.std.proofs.Common.{rules}
-use mathlib.Core.Path.{◌≡◌, refl}
+use mathlib.Core.Path.{refl}
 use native.Mathlib.Omega.{arith}
-use Prim.Native.Nat.{◌-◌, ◌≤◌}
-use lib.ListN.{length}
-use Rattle.text.specs.Inner.Writer.{Wrote}
 use Rattle.text.proofs.WriterLaw.{wrote_end}
-use Rattle.printing.specs.Printed.{node_lines}
 use Rattle.printing.proofs.PrintedLaw.{no_lines, line_more, table-wrote, table-short}
 use Rattle.printing.proofs.put_table.Goals as goal
 

@@ -1,5 +1,4 @@
 -- Each verdict has its word.
-use Rattle.std.proofs.Common.{rules}
 use mathlib.Core.Path.{sym, subst}
 use native.Mathlib.Omega.{arith}
 use Rattle.trace.specs.declared.Verdict.{Verdict}

@@ -1,5 +1,4 @@
 -- `psl_verdict::psl_holds` meets its contract: on the empty trace by the formula's shape, else by the translation's row at moment 0.
-use Rattle.std.proofs.Common.{rules}
 use native.Mathlib.Omega.{arith}
 use mathlib.Core.Path.{◌≡◌, refl}
 use mathlib.Core.Option.{none}
@@ -44,6 +43,6 @@ returns c =
     let m = c.args.cycle.now in
     let w : FitsRow l m = record { some = omega (arith, c.if-letters-eq0.false); most = c.requires.1 } in
     let row = c.formula_row.ensures l m w refl c.signal_rows.ensures falsum falsum
-        (record { accept = tells-false w; reject = tells-false w }) in
+    (record { accept = tells-false w; reject = tells-false w }) in
     holds-some t l m c.holds_first.result w
     (c.holds_first.ensures l m (translated (formula_at t (count t - 1)) falsum falsum) w refl row)

@@ -1,5 +1,4 @@
 -- `psl_verdict::psl_verdict` meets its contract: the table's refusal, or the verdict on an accepted table.
-use Rattle.std.proofs.Common.{rules}
 use Rattle.table.proofs.CheckLaw.{accepted as accepted-none, was_refused}
 use Rattle.psl.specs.Check.{psl_refusal}
 use Rattle.trace.proofs.JudgesLaw.{refused-first}

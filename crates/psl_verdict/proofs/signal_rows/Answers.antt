@@ -2,12 +2,12 @@
 use Rattle.std.proofs.Common.{rules}
 use native.Mathlib.Omega.{arith}
 use mathlib.Core.Path.{◌≡◌, refl, subst, ◌∙◌}
-use Prim.Native.Nat.{ℕ, ◌+◌, ◌-◌, ◌≤◌, ◌<◌}
+use Prim.Native.Nat.{ℕ, ◌+◌, ◌<◌}
 use native.Mathlib.Decide.{dec_lt}
 use lib.Dec.{T}
 use lib.ListN.{length}
 use Rattle.logic.specs.Letter.{bit}
-use Rattle.table.specs.Node.{count, kind_at, left_at}
+use Rattle.table.specs.Node.{kind_at, left_at}
 use Rattle.psl.proofs.AcceptedLaw.{is-var}
 use Rattle.rows.specs.Inner.Rows.{RowsKnown}
 use Rattle.rows.proofs.SignalLaw.{known-none}
@@ -26,24 +26,24 @@ learns c =
     let I = c.loop-i.invariant in
     elim c.if-t-i-eq-VAR.branch [
       | then-t-i-eq-VAR w ↦
-        let K = w.learn-known.ensures c.requires.1 (is-var t c.requires.0 i (omega (arith, I.0)) w.if-t-i-eq-VAR.true).0 (omega (arith, I.2, c.requires.2)) I.3 in
-        rw (w.vars-is, w.known-is) (
-          w.learn-known.auto.rows ∙ I.2,
-          K.0,
-          λ j h e. elim (dec_lt j i) [
-            | yes l ↦ K.2 (left_at t j) (I.4 j l e)
-            | no l ↦ let z : i ≡ j = omega arith in subst (λ (m : ℕ). T (bit w.learn-known.result (left_at t m))) z K.1
-          ],
-        )
+          let K = w.learn-known.ensures c.requires.1 (is-var t c.requires.0 i (omega (arith, I.0)) w.if-t-i-eq-VAR.true).0 (omega (arith, I.2, c.requires.2)) I.3 in
+          rw (w.vars-is, w.known-is) (
+            w.learn-known.auto.rows ∙ I.2,
+            K.0,
+            λ j h e. elim (dec_lt j i) [
+              | yes l ↦ K.2 (left_at t j) (I.4 j l e)
+              | no l ↦ let z : i ≡ j = omega arith in subst (λ (m : ℕ). T (bit w.learn-known.result (left_at t m))) z K.1
+            ],
+          )
       | else-t-i-eq-VAR w ↦
-        rw (w.vars-is, w.known-is) (
-          I.2,
-          I.3,
-          λ j h e. elim (dec_lt j i) [
-            | yes l ↦ I.4 j l e
-            | no l ↦ let z : j ≡ i = omega arith in absurd (w.if-t-i-eq-VAR.false (subst (λ (m : ℕ). kind_at t m ≡ 1) z e))
-          ],
-        )
+          rw (w.vars-is, w.known-is) (
+            I.2,
+            I.3,
+            λ j h e. elim (dec_lt j i) [
+              | yes l ↦ I.4 j l e
+              | no l ↦ let z : j ≡ i = omega arith in absurd (w.if-t-i-eq-VAR.false (subst (λ (m : ℕ). kind_at t m ≡ 1) z e))
+            ],
+          )
     ]
 
 pub loop-i-init : goal.loop-i-init

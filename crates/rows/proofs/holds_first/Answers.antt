@@ -1,6 +1,5 @@
 -- The bit of the first letter stands for moment 0.
-use Rattle.std.proofs.Common.{rules}
-use Rattle.std.proofs.Common.{◌≡◌, ℕ, ◌-◌, ◌/◌, ◌%◌, ◌^◌, Bool, T, ◌↔◌, sym, ◌∙◌, subst, arith, rules}
+use Rattle.std.proofs.Common.{◌≡◌, ℕ, ◌-◌, ◌/◌, ◌%◌, ◌^◌, Bool, T, ◌↔◌, sym, ◌∙◌, subst, arith}
 use Rattle.logic.specs.Letter.{bit}
 use Rattle.logic.specs.Trace.{size}
 use Rattle.logic.specs.LtlMeaning.{LtlHoldsOn}

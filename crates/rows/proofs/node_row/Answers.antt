@@ -1,6 +1,5 @@
 -- Kind by kind, each by its function's contract.
-use Rattle.std.proofs.Common.{rules}
-use Rattle.std.proofs.Common.{◌≡◌, ℕ, zero, suc, ◌<◌, sym, refl, subst, arith, rules}
+use Rattle.std.proofs.Common.{◌≡◌, ℕ, zero, suc, ◌<◌, sym, refl, subst, arith}
 use Rattle.table.specs.Node.{node}
 use Rattle.logic.specs.Tree.{Ltl, ltrue}
 use Rattle.ltl.specs.Table.{tree_of_node}

@@ -1,6 +1,5 @@
 -- The carries of a sum are the until step.
-use Rattle.std.proofs.Common.{rules}
-use Rattle.std.proofs.Common.{ℕ, ◌+◌, ◌-◌, ◌%◌, ◌^◌, sym, ap, ◌∙◌, subst, rules}
+use Rattle.std.proofs.Common.{ℕ, ◌+◌, ◌-◌, ◌%◌, ◌^◌, sym, ap, ◌∙◌, subst}
 use lib.Bits.{bit_and, bit_or}
 use Rattle.logic.specs.Letter.{bit}
 use Rattle.trace.specs.Limits.{most_letters}

@@ -1,5 +1,4 @@
 -- Letters, and the end.
-use Rattle.std.proofs.Common.{rules}
 use mathlib.Core.Path.{subst}
 use Rattle.trace_lines.specs.Inner.LettersReader.{LettersRead, further, Any}
 use Rattle.trace_lines.proofs.TraceLaw.{finite-no, finite_tail, finite-read}

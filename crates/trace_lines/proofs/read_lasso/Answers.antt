@@ -1,11 +1,7 @@
 -- The lead-in, ` (`, the loop, the closing bracket, and the end.
-use Rattle.std.proofs.Common.{rules}
 use native.Mathlib.Omega.{arith}
 use mathlib.Core.Path.{sym, subst, ◌∙◌}
-use mathlib.Core.List.{List}
-use Prim.Native.Nat.{ℕ, ◌≤◌}
 use Rattle.text.specs.Text.{text}
-use Rattle.text.specs.Limits.{most_bytes}
 use Rattle.text.specs.Inner.Places.{Stands}
 use Rattle.trace_lines.specs.Inner.LettersReader.{LettersRead, listed, Any, Some}
 use Rattle.trace_lines.specs.declared.Letters.TheVariants.{Found}

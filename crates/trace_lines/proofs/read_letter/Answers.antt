@@ -1,5 +1,4 @@
 -- A number; above the largest letter it is only said to be large.
-use Rattle.std.proofs.Common.{rules}
 use native.Mathlib.Omega.{arith}
 use mathlib.Core.Path.{subst}
 use Rattle.text.specs.Inner.Scan.{NumberRead}

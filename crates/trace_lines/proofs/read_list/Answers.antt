@@ -1,5 +1,4 @@
 -- An empty list, or some letters.
-use Rattle.std.proofs.Common.{rules}
 use native.Mathlib.Omega.{arith}
 use mathlib.Core.Path.{sym, ◌∙◌}
 use Rattle.trace_lines.proofs.LettersLaw.{empty_list, some_list}

@@ -1,5 +1,4 @@
 -- A first letter, and further ones.
-use Rattle.std.proofs.Common.{rules}
 use native.Mathlib.Omega.{arith}
 use mathlib.Core.Path.{subst}
 use Rattle.trace_lines.specs.Inner.LettersReader.{LetterRead, LettersRead, further, Any}

@@ -1,5 +1,4 @@
 -- Each refusal from the reading with no room; then the same reading fills the lent lists.
-use Rattle.std.proofs.Common.{rules}
 use native.Mathlib.Omega.{arith}
 use mathlib.Core.Path.{subst}
 use mathlib.Core.List.{[], ◌∷◌}
