@@ -1,5 +1,4 @@
 -- Past the end a store changes nothing.
-use Rattle.std.proofs.Common.{rules}
 use mathlib.Core.Path.{sym}
 use lib.Seq.{set_out}
 use Rattle.formula_lines.proofs.put.Goals as goal

@@ -1,5 +1,4 @@
 -- Each refusal from the reading with no room; then the same reading fills the lent list.
-use Rattle.std.proofs.Common.{rules}
 use native.Mathlib.Omega.{arith}
 use Prim.Native.Nat.{◌≤◌}
 use lib.ListN.{length}

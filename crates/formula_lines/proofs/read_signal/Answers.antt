@@ -1,5 +1,4 @@
 -- A number; above the limit it is only said to be large.
-use Rattle.std.proofs.Common.{rules}
 use native.Mathlib.Omega.{arith}
 use Rattle.formula_lines.proofs.ReaderLaw.{signal-no, signal_small, signal_large}
 use Rattle.formula_lines.proofs.read_signal.Goals as goal

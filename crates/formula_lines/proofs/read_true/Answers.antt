@@ -1,5 +1,4 @@
 -- `true` is due where a Boolean is; a form that opens with a bracket does not stand here.
-use Rattle.std.proofs.Common.{rules}
 use native.Mathlib.Omega.{arith}
 use mathlib.Core.Path.{sym, subst}
 use Prim.Native.Nat.{ℕ}

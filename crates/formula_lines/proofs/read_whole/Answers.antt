@@ -1,5 +1,4 @@
 -- `(psl `, a formula, the closing bracket, and the end.
-use Rattle.std.proofs.Common.{rules}
 use native.Mathlib.Omega.{arith}
 use mathlib.Core.Path.{sym, subst, ◌∙◌, ◌≡◌}
 use mathlib.Core.List.{List}

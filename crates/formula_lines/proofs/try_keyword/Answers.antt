@@ -1,5 +1,4 @@
 -- One way out for each law.
-use Rattle.std.proofs.Common.{rules}
 use native.Mathlib.Omega.{arith}
 use Rattle.formula_lines.proofs.KeywordLaw.{try_found, try_later, try_far, try_near}
 use Rattle.formula_lines.proofs.try_keyword.Goals as goal
