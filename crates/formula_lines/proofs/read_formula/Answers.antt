@@ -25,7 +25,7 @@ pub returns-then-out-nodes : goal.returns-then-out-nodes
 returns-then-out-nodes c =
     let short : length c.args.line.now ≤ most_bytes = omega (arith, c.if-line-gt-MOST_BYTES.false) in
     let (f, dry) = c.in-Found.ensures in
-    no_room c.args.out.now short dry (omega (arith, c.if-nodes-gt-MOST_NODES.false)) c.if-large.false c.if-out-nodes.true
+    no_room c.args.out.now short dry (omega (arith, c.if-nodes-gt-MOST_NODES.false)) c.if-large.false (omega (arith, c.if-out-nodes.true))
 
 pub returns-in-FaultAt : goal.returns-in-FaultAt
 returns-in-FaultAt c =
