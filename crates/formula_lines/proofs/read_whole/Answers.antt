@@ -15,11 +15,6 @@ opened s p w e = subst (Stands (text "(psl ") s 0) e (w.whole (omega arith) e)
 pub returns-then-p-ne5 : goal.returns-then-p-ne5
 returns-then-p-ne5 c = not-psl (c.match_word-p.ensures.part (omega arith) c.if-p-ne5.true)
 
-pub read_form-requires : goal.read_form-requires
-read_form-requires c =
-    let o = opened c.args.s.now c.match_word-p.result c.match_word-p.ensures c.if-p-ne5.false in
-    record { few = omega arith; within = o.within; short = c.requires }
-
 pub returns-then-byte-ne41 : goal.returns-then-byte-ne41
 returns-then-byte-ne41 c =
     let (f, sf, a) = c.in-Found.ensures in
