@@ -1,7 +1,7 @@
 -- `translate::walk` meets its contract, by the number of its node: each arm stores what the walk of its formula appends.
-use Rattle.std.proofs.Common.{◌≡◌, ℕ, ◌+◌, ◌<◌, ◌≤◌, List, length, arith}
+use Rattle.std.proofs.Common.{◌≡◌, ℕ, ◌<◌, ◌≤◌, List, arith}
 use Rattle.std.proofs.Math.Option.{none}
-use Rattle.table.specs.Node.{count, kind_at, left_at, right_at}
+use Rattle.table.specs.Node.{count, kind_at}
 use Rattle.psl.specs.Check.{psl_refusal}
 use Rattle.psl.proofs.AcceptedLaw.{Boolean, Formula, is-not, is-next, is-abort}
 use Rattle.translate.specs.Inner.Stored.{Room}

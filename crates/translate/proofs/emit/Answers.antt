@@ -1,8 +1,5 @@
 -- `translate::emit` meets its contract: true, not 0, then the walk from the root.
-use Rattle.std.proofs.Common.{rules}
 use native.Mathlib.Omega.{arith}
-use mathlib.Core.List.{List}
-use Prim.Native.Nat.{ℕ}
 use Rattle.psl.proofs.AcceptedLaw.{some-node, most-nodes, root-formula}
 use Rattle.translate.proofs.DeliversLaw.{size_of, size-most, emits}
 use Rattle.translate.proofs.emit.Goals as goal

@@ -1,10 +1,7 @@
 -- `translate::translate` meets its contract: the check's refusal, 10, or the emitted table in front.
-use Rattle.std.proofs.Common.{rules}
 use native.Mathlib.Omega.{arith}
 use mathlib.Core.Path.{◌≡◌}
 use mathlib.Core.Option.{none}
-use mathlib.Core.List.{List}
-use Prim.Native.Nat.{ℕ}
 use Rattle.table.proofs.CheckLaw.{accepted, was_refused}
 use Rattle.psl.specs.Check.{psl_refusal}
 use Rattle.translate.proofs.DeliversLaw.{size-most, refused_check, refused-room, delivered}
