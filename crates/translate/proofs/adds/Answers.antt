@@ -21,4 +21,4 @@ unfolding added_by
 returns-in-10 c = (rw c.in-10.is, search rules)
 
 pub returns-in_default : goal.returns-in_default
-returns-in_default c = let R = c.in_default.rest in (added_rest c.args.kind R.0.0.0.1 R.0.0.1 R.0.1 R.1, search rules)
+returns-in_default c = (added_rest c.args.kind (search rules) (search rules) (search rules) (search rules), search rules)
