@@ -1,0 +1,17 @@
+-- The bit of the first letter stands for moment 0.
+use Rattle.std.proofs.Common.{rules}
+use Rattle.std.proofs.Common.{◌≡◌, ℕ, ◌-◌, ◌/◌, ◌%◌, ◌^◌, Bool, T, ◌↔◌, sym, ◌∙◌, subst, arith, rules}
+use Rattle.logic.specs.Letter.{bit}
+use Rattle.logic.specs.Trace.{size}
+use Rattle.logic.specs.LtlMeaning.{LtlHoldsOn}
+use Rattle.logic.proofs.BitLaw.{test_first, bit_brought}
+use Rattle.rows.proofs.RowLaw.{tells_first}
+use Rattle.trace.specs.Limits.{most_letters}
+use Rattle.rows.proofs.holds_first.Goals as goal
+
+pub returns : goal.returns
+returns c lead loop x few e W = let a = c.args in
+    let k = c.wrapping_sub_usize.result % most_letters in
+    let z : size lead loop - 1 ≡ k = omega (arith, c.wrapping_sub_usize.ensures) in
+    subst (λ (b : Bool). LtlHoldsOn x lead loop ↔ T b) (sym (test_first (a.w / 2 ^ k) ∙ bit_brought a.w k))
+    (subst (λ (m : ℕ). LtlHoldsOn x lead loop ↔ T (bit a.w m)) z (tells_first few W))

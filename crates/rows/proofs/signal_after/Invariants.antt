@@ -1,0 +1,13 @@
+-- The loop goes from the first letter to the last: the row has the signal at what came before and at the first i letters.
+use Rattle.std.proofs.Common.{◌≡◌, ℕ, ◌-◌, ◌/◌, ◌^◌, ◌≤◌, List, ◌++◌, length, get_or, take, ap, ◌∙◌, subst, append-nil, arith}
+use lib.Bits.{mask_lt}
+use lib.Seq.{take-length}
+use Rattle.rows.specs.Inner.Rows.{SignalIn}
+use Rattle.rows.proofs.SignalLaw.{signal_step}
+use Rattle.rows.proofs.signal_after.Given as goal
+
+abbrev pub invariant-loop-i : goal.invariant-loop-i
+invariant-loop-i l = (l.i ≤ length l.s) × ((t : List ℕ) → SignalIn t l.k l.before → SignalIn (t ++ take l.i l.s) l.k l.w)
+
+abbrev pub decreases-loop-i : goal.decreases-loop-i
+decreases-loop-i l = length l.s - l.i
