@@ -1,9 +1,9 @@
 // A run on standard input and output: each turn reads a block, has it taken, and writes what it printed.
 #![tactic(auto)]
 
-ghost use Rattle.std.specs.Prelude.{◌≡◌, ◌⊎◌, true, length};
+ghost use Rattle.std.specs.Prelude.{◌≡◌, ◌⊎◌, true, false, length};
 ghost use Rattle.state.specs.Inner.{Within, ListsFit, stopped, idle};
-ghost use Rattle.turns.specs.Turn.{Turned};
+ghost use Rattle.turns.specs.Turn.{Turned, Moved, Whole};
 
 use run::advance;
 use state::{BLOCK, LAST_LINE, LINE_ROOM, LTL_ROOM, OUT_ROOM, PSL_ROOM, State, stop};
@@ -34,7 +34,9 @@ fn take_turn<R: Read, W: Write>(
     s: State,
 ) -> State
     requires { Within s line.old psl.old ltl.old out.old × (s.more ≡ true) }
-    ensures { Turned line.old psl.old ltl.old s result line.new psl.new ltl.new out.new }
+    ensures turned { Turned line.old psl.old ltl.old s result line.new psl.new ltl.new out.new }
+    ensures moved { result.failed ≡ false → Moved (R.remaining input.old) (R.remaining input.new) (W.contents output.old) (W.contents output.new)
+        line.old psl.old ltl.old s result line.new psl.new ltl.new out.new }
 {
     if LAST_LINE < s.number {
         let _ = eprintln!(told; "psl2ltl: more lines than can be counted");
@@ -56,7 +58,7 @@ fn take_turn<R: Read, W: Write>(
     }
 }
 
-// Turns to the input's end, or to a refused first line. Whether none of them failed.
+// Turns to the input's end, or to a refused first line. Whether they came to it.
 fn turn_by_turn<R: Read, W: Write>(
     input: &mut R,
     output: &mut W,
@@ -67,6 +69,7 @@ fn turn_by_turn<R: Read, W: Write>(
     out: &mut [u8],
 ) -> bool
     requires { ListsFit 0 (length line.old) (length psl.old) (length ltl.old) (length out.old) }
+    ensures { result ≡ true → Whole (R.remaining input.old) (W.contents output.old) (W.contents output.new) }
 {
     let mut s = State {
         number: 1,
@@ -82,11 +85,13 @@ fn turn_by_turn<R: Read, W: Write>(
         s = take_turn(input, output, told, line, psl, ltl, out, s);
         turns = if s.more { turns - 1 } else { 0 };
     }
-    !s.failed
+    if s.more { false } else { !s.failed }
 }
 
-// A run from an input to an output; what fails is told. Whether nothing failed.
-pub fn take_turns<R: Read, W: Write>(input: &mut R, output: &mut W, told: &impl Eprint) -> bool {
+// A run from an input to an output; what fails is told. Whether it came to its end.
+pub fn take_turns<R: Read, W: Write>(input: &mut R, output: &mut W, told: &impl Eprint) -> bool
+    ensures { result ≡ true → Whole (R.remaining input.old) (W.contents output.old) (W.contents output.new) }
+{
     let mut line = [0u8; LINE_ROOM];
     let mut psl = [0u16; PSL_ROOM];
     let mut ltl = [0u16; LTL_ROOM];
