@@ -12,7 +12,6 @@ use Rattle.formula_lines.specs.Spelling.{formula_line}
 use Rattle.psl.specs.Closing.{closing_nodes}
 use Rattle.formula_lines.specs.FormulaAnswer.{formula_refusal, FormulaAnswer}
 use Rattle.formula_lines.specs.declared.FormulaLine.{FormulaLine}
-use Rattle.formula_lines.specs.declared.FormulaLine.TheVariants as FormulaLine
 use Rattle.formula_lines.proofs.FormulaLaw.{formula_injective}
 use Rattle.formula_lines.proofs.LimitsLaw.{limits-accepted}
 

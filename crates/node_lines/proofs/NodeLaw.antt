@@ -16,7 +16,6 @@ use Rattle.table.specs.Answer.{checked}
 use Rattle.table.specs.Rules.{known, shape_of}
 use Rattle.table.specs.Check.{node_refusal}
 use Rattle.table.specs.declared.Checked.{Checked}
-use Rattle.table.specs.declared.Checked.TheVariants as Checked
 use Rattle.table.proofs.CheckLaw.{unless-none, accepted, was_refused, Fits, places_fit}
 use Rattle.table.proofs.KindLaw.{◌⨾◌, each}
 use Rattle.ltl.specs.Check.{ltl_rules}

@@ -9,7 +9,6 @@ use Rattle.trace.specs.declared.Refusal.{Refusal}
 use Rattle.table.specs.Node.{count, kind_at, left_at, right_at, node_at}
 use Rattle.ltl.specs.Check.{ltl_rules}
 use Rattle.trace.specs.declared.Verdict.{Verdict}
-use Rattle.trace.specs.declared.Verdict.TheVariants as Verdict
 use Rattle.text.specs.Text.{text}
 use Rattle.text.specs.Spelling.{digits}
 use Rattle.node_lines.specs.Spelling.{node_line}

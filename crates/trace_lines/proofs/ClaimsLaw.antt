@@ -9,7 +9,6 @@ use Rattle.trace_lines.specs.Claims.{Claims}
 use Rattle.trace_lines.specs.Spelling.{TraceLists, line_of_trace}
 use Rattle.trace_lines.specs.TraceAnswer.{trace_refusal, TraceAnswer}
 use Rattle.trace_lines.specs.declared.TraceLine.{TraceLine}
-use Rattle.trace_lines.specs.declared.TraceLine.TheVariants as TraceLine
 use Rattle.trace_lines.proofs.TraceLaw.{trace_alone}
 
 trace_answer : (s k l : List ℕ) (r r' : TraceLine) (m m' n n' : List ℕ) → TraceAnswer s k l r m n → TraceAnswer s k l r' m' n' → (r ≡ r') × (m ≡ m') × (n ≡ n')

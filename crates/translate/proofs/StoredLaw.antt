@@ -1,7 +1,7 @@
 -- A node stored behind those that are there.
 use mathlib.Core.Path.{◌≡◌, refl, sym, ap, subst, ◌∙◌}
 use mathlib.Core.List.{List, [], ◌∷◌}
-use Prim.Native.Nat.{ℕ, suc, ◌+◌, ◌*◌}
+use Prim.Native.Nat.{ℕ, suc, ◌+◌, ◌*◌, ◌≤◌}
 use native.Mathlib.Omega.{arith}
 use lib.ListN.{length, set}
 use lib.Seq.{sets}
@@ -10,7 +10,11 @@ use Rattle.table.proofs.NodeLaw.{length-numbers, length_more}
 use Rattle.table.proofs.StoreLaw.{sets-sets, numbers_more}
 use Rattle.ltl.specs.Table.{not_node, and_node, or_node}
 use Rattle.translate.specs.Emitted.{gated}
-use Rattle.translate.specs.Inner.Stored.{Stored, Walks}
+use Rattle.translate.specs.Inner.Stored.{Stored, Room, Walks}
+
+-- Where there is room for what a node stores, there is room for a part of it.
+pub room_within : {w n v m : ℕ} {old now : List ℕ} → Room w n old → length now ≡ length old → m + v ≤ n + w → Room v m now
+room_within R l h = record { space = omega (arith, R.space); fits = omega (arith, R.fits) }
 
 -- Three stores at the node behind node n, the last.
 pub walks-node : (k x y n : ℕ) {old now : List ℕ}

@@ -1,5 +1,4 @@
 -- The array is the table; past it there are no kinds.
-use Rattle.std.proofs.Common.{rules}
 use native.Mathlib.Omega.{arith}
 use mathlib.Core.Path.{refl, sym}
 use lib.ListN.{get_or-eq_default}

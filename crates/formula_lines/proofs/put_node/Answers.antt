@@ -1,5 +1,4 @@
 -- Three stores in a row.
-use Rattle.std.proofs.Common.{rules}
 use Prim.Native.Nat.{◌*◌}
 use Rattle.table.proofs.StoreLaw.{three}
 use Rattle.formula_lines.proofs.put_node.Goals as goal

@@ -1,5 +1,4 @@
 -- Booleans are sort 0, formulas every other.
-use Rattle.std.proofs.Common.{rules}
 use mathlib.Core.Path.{sym, subst}
 use mathlib.Core.List.{List}
 use Prim.Native.Nat.{ℕ}

@@ -1,6 +1,4 @@
 -- `true` is due where a Boolean is; a form that opens with a bracket does not stand here.
-use Rattle.std.proofs.Common.{rules}
-use native.Mathlib.Omega.{arith}
 use mathlib.Core.Path.{sym, subst}
 use Prim.Native.Nat.{ℕ}
 use Rattle.text.specs.Inner.Places.{Stops}
@@ -20,9 +18,6 @@ returns-then-p-at c = let x = c.args in
     let s = x.s.now in
     let at = x.at in
     subst (λ (so : ℕ). Stops (FormOf so) s at c.match_word-p.result) (sym c.if-sort-ne0.false) (true-part s at c.requires.1 (c.match_word-p.ensures.part c.requires.0.within c.if-p-at.true))
-
-pub put_node-requires : goal.put_node-requires
-put_node-requires c = omega (arith, c.requires.0.few, c.requires.0.within, c.requires.0.short)
 
 pub returns : goal.returns
 returns c = let x = c.args in

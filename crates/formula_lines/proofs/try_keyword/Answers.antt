@@ -1,5 +1,4 @@
 -- One way out for each law.
-use Rattle.std.proofs.Common.{rules}
 use native.Mathlib.Omega.{arith}
 use Rattle.formula_lines.proofs.KeywordLaw.{try_found, try_later, try_far, try_near}
 use Rattle.formula_lines.proofs.try_keyword.Goals as goal
@@ -12,17 +11,17 @@ returns-then-p-at c = let x = c.args in
 pub returns-in-Found : goal.returns-in-Found
 returns-in-Found c = let x = c.args in
     let m = c.match_word-p in
-    let g = c.others-1.given in
-    λ ks e h. try_later x.s.now x.w.now x.at m.result x.kind ks e c.requires m.ensures x.others h g.0.0 g.0.1.0 g.1
+    let g = c.in-Found in
+    λ ks e h. try_later x.s.now x.w.now x.at m.result x.kind ks e c.requires m.ensures x.others h g.k g.next g.is
 
 pub returns-then-p-q : goal.returns-then-p-q
 returns-then-p-q c = let x = c.args in
     let m = c.match_word-p in
-    let g = c.others-in-FaultAt-1.given in
-    λ ks e h. try_far x.s.now x.w.now x.at m.result x.kind ks e c.requires m.ensures x.others h c.if-p-at.false g.0.0 g.1 c.if-p-q.true
+    let g = c.in-FaultAt in
+    λ ks e h. try_far x.s.now x.w.now x.at m.result x.kind ks e c.requires m.ensures x.others h c.if-p-at.false g.q g.is c.if-p-q.true
 
 pub returns-else-p-q : goal.returns-else-p-q
 returns-else-p-q c = let x = c.args in
     let m = c.match_word-p in
-    let g = c.others-in-FaultAt-1.given in
-    λ ks e h. try_near x.s.now x.w.now x.at m.result x.kind ks e c.requires m.ensures x.others h c.if-p-at.false g.0.0 g.1 (omega arith)
+    let g = c.in-FaultAt in
+    λ ks e h. try_near x.s.now x.w.now x.at m.result x.kind ks e c.requires m.ensures x.others h c.if-p-at.false g.q g.is (omega arith)

@@ -11,11 +11,8 @@ use Rattle.text.specs.Inner.Number.{NoDigit}
 use Rattle.formula_lines.specs.Inner.Form.{Form, truth, signal, one, two, keyword, kinds, Sorted, OfKind, bytes, inner, closed, wide}
 use Rattle.text.specs.Inner.Words.{elem}
 use Rattle.formula_lines.specs.declared.Keyword.{Keyword}
-use Rattle.formula_lines.specs.declared.Keyword.TheVariants as Keyword
 use Rattle.formula_lines.specs.declared.Read.{Read}
-use Rattle.formula_lines.specs.declared.Read.TheVariants as Read
 use Rattle.formula_lines.specs.declared.Operands.{Operands}
-use Rattle.formula_lines.specs.declared.Operands.TheVariants as Operands
 
 -- ── Words ──
 

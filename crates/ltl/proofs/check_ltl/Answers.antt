@@ -1,5 +1,4 @@
 -- `check_ltl` answers for the length, then for the lowest node that is refused.
-use Rattle.std.proofs.Common.{rules}
 use mathlib.Core.Path.{◌≡◌, sym, ap}
 use mathlib.Core.Bool.{true}
 use lib.ListN.{length}

@@ -1,9 +1,7 @@
 -- `first_refused` passes the nodes that are not refused, and stops at the first that is.
-use Rattle.std.proofs.Common.{rules}
-use Prim.Native.Nat.{ℕ, ◌-◌, ◌≤◌, ◌<◌}
+use Prim.Native.Nat.{ℕ, ◌<◌}
 use mathlib.Core.Path.{◌≡◌, subst}
 use mathlib.Core.Option.{none}
-use mathlib.Core.List.{List}
 use native.Mathlib.Omega.{arith}
 use Rattle.table.specs.Node.{count, kind_at}
 use Rattle.table.specs.Rules.{shape_of}

@@ -1,5 +1,4 @@
 -- The code's rules are those of the check.
-use Rattle.std.proofs.Common.{rules}
 use Rattle.ltl.specs.Check.{ltl_rules}
 use Rattle.ltl.proofs.CheckLaw.{rules-coded}
 use Rattle.ltl.proofs.refused_at.Goals as goal

@@ -1,5 +1,4 @@
 -- `ltl_verdict::judge_ltl` meets its contract: the letters, then what the accepted table says.
-use Rattle.std.proofs.Common.{rules}
 use native.Mathlib.Omega.{arith}
 use Rattle.trace.proofs.JudgesLaw.{judged}
 use Rattle.ltl_verdict.proofs.JudgesLaw.{ltl-long, ltl-empty, ltl_fine}

@@ -1,5 +1,4 @@
 -- `check_alone` asks the LTL check about one node.
-use Rattle.std.proofs.Common.{rules}
 use Rattle.ltl.specs.Check.{ltl_rules}
 use Rattle.ltl.proofs.CheckLaw.{rules-coded}
 use Rattle.node_lines.proofs.check_alone.Goals as goal

@@ -1,5 +1,4 @@
 -- The array is the table; a kind that there is not has no places.
-use Rattle.std.proofs.Common.{rules}
 use mathlib.Core.Path.{refl}
 use Rattle.node_lines.specs.Spelling.{ltl_places}
 use Rattle.node_lines.proofs.WriterLaw.{no-places}

@@ -1,12 +1,8 @@
 -- The head, then a line a node.
 use Rattle.std.proofs.Common.{rules}
-use mathlib.Core.Path.{◌≡◌, refl}
+use mathlib.Core.Path.{refl}
 use native.Mathlib.Omega.{arith}
-use Prim.Native.Nat.{◌-◌, ◌≤◌}
-use lib.ListN.{length}
-use Rattle.text.specs.Inner.Writer.{Wrote}
 use Rattle.text.proofs.WriterLaw.{wrote_end}
-use Rattle.printing.specs.Printed.{node_lines}
 use Rattle.printing.proofs.PrintedLaw.{no_lines, line_more, table-wrote, table-short}
 use Rattle.printing.proofs.put_table.Goals as goal
 
@@ -19,21 +15,13 @@ loop-i-init c = let x = c.args in
 
 pub loop-i-preserved : goal.loop-i-preserved
 loop-i-preserved c = let x = c.args in
-    let at-loop = c.loop-i in
-    let at-put-line = c.put_line-to in
-    (omega arith, search rules, line_more x.t.now at-loop.i at-loop.invariant.2 at-put-line.ensures)
+    (omega arith, search rules, line_more x.t.now c.loop-i.i c.loop-i.invariant.2 c.put_line-to.ensures)
 
 pub returns : goal.returns
 returns c = let x = c.args in
-    let at-loop = c.loop-i in
-    let at-loop-test = c.loop-i-test in
-    let at-put-text = c.put_text-a in
-    let at-put-number = c.put_number-b in
-    let at-put-text2 = c.put_text-to in
-    let at-shared-slice-known = c.shared_slice_known-1 in
-    let wrote = table-wrote x.t.now at-loop.i (omega (arith, at-loop.invariant.0, at-loop-test.false)) at-put-text.ensures at-put-number.ensures at-put-text2.ensures at-loop.invariant.2 in
+    let wrote = table-wrote x.t.now c.loop-i.i (omega (arith, c.loop-i.invariant.0, c.loop-i-test.false)) c.put_text-a.ensures c.put_number-b.ensures c.put_text-to.ensures c.loop-i.invariant.2 in
     record {
       table = λ _. wrote;
       none = λ h. absurd (omega arith);
-      short = omega (arith, wrote_end wrote, table-short x.t.now (λ i. omega (arith, at-shared-slice-known.given i)) (omega arith));
+      short = omega (arith, wrote_end wrote, table-short x.t.now (λ i. omega (arith, c.shared_slice_known-1.given i)) (omega arith));
     }

@@ -1,12 +1,9 @@
 -- The head, then a line a node.
-use mathlib.Core.Path.{◌≡◌, refl}
-use native.Mathlib.Omega.{arith}
+use mathlib.Core.Path.{◌≡◌}
 use Prim.Native.Nat.{◌-◌, ◌≤◌}
 use lib.ListN.{length}
 use Rattle.text.specs.Inner.Writer.{Wrote}
-use Rattle.text.proofs.WriterLaw.{wrote_end}
 use Rattle.printing.specs.Printed.{node_lines}
-use Rattle.printing.proofs.PrintedLaw.{no_lines, line_more, table-wrote, table-short}
 use Rattle.printing.proofs.put_table.Given as goal
 
 abbrev pub invariant-loop-i : goal.invariant-loop-i

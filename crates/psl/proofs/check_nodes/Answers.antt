@@ -1,11 +1,10 @@
 -- `check_nodes` answers for the lowest node that is refused, or else for the uses.
-use Rattle.std.proofs.Common.{rules}
 use native.Mathlib.Omega.{arith}
 use mathlib.Core.Path.{◌≡◌, sym, ap, subst, ◌∙◌}
 use Prim.Native.Nat.{ℕ, ◌<◌}
 use Rattle.table.specs.Answer.{checked}
 use Rattle.table.specs.Node.{count}
-use Rattle.table.proofs.CheckLaw.{sized, refused-node, refused_none}
+use Rattle.table.proofs.CheckLaw.{refused-node, refused_none}
 use Rattle.psl.specs.Check.{psl_rules}
 use Rattle.psl.specs.Inner.Counts.{Tallied}
 use Rattle.psl.proofs.CheckLaw.{psl_by_node, psl_then}

@@ -1,5 +1,4 @@
 -- `check_psl` answers for the length, then for the nodes, from cleared counts, of which there are enough.
-use Rattle.std.proofs.Common.{rules}
 use mathlib.Core.Path.{◌≡◌, sym, ap}
 use mathlib.Core.Bool.{true}
 use lib.ListN.{length}

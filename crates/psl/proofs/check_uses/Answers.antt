@@ -1,15 +1,11 @@
 -- `check_uses` answers for the lowest node that is not used once, then for the last: the loop passes nodes that are used once.
-use Rattle.std.proofs.Common.{rules}
-use Prim.Native.Nat.{◌-◌, ◌≤◌}
-use mathlib.Core.Path.{◌≡◌, sym, ap}
-use mathlib.Core.Option.{none}
+use mathlib.Core.Path.{sym, ap}
 use native.Mathlib.Omega.{arith}
 use borrow.Author.Tests.{lt-ltb, le-ltb}
 use Rattle.table.specs.Answer.{checked}
-use Rattle.trace.specs.Refusal.{lowest}
 use Rattle.table.proofs.CheckLaw.{Sized, sized, lowest-zero, lowest-next}
 use Rattle.psl.specs.Check.{psl_rules, use_refusal}
-use Rattle.psl.proofs.CheckLaw.{in_counts, used_once, misused, uses-refused, root-refused, root_fine}
+use Rattle.psl.proofs.CheckLaw.{used_once, misused, uses-refused, root-refused, root_fine}
 use Rattle.psl.proofs.check_uses.Goals as goal
 use Rattle.psl.proofs.check_uses.Goals.{Start}
 

@@ -1,12 +1,11 @@
 -- `count_place` adds a use of an operand, and nothing else.
-use Rattle.std.proofs.Common.{rules}
 use Prim.Native.Nat.{ℕ, ◌<◌}
 use mathlib.Core.Path.{◌≡◌, subst}
 use native.Mathlib.Omega.{arith}
-use lib.ListN.{length, get_or}
+use lib.ListN.{length}
 use Rattle.table.specs.Rules.{Use}
 use Rattle.table.specs.Inner.Place.{coded, operand_or}
-use Rattle.psl.proofs.CheckLaw.{low_as, one_more, counted}
+use Rattle.psl.proofs.CheckLaw.{low_as, counted}
 use Rattle.psl.proofs.count_place.Goals as goal
 use Rattle.psl.proofs.count_place.Goals.{After-operand_of-at}
 

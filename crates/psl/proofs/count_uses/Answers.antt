@@ -1,13 +1,11 @@
 -- `count_uses` passes the nodes that are not refused and counts their operands; it stops at the first that is refused.
-use Rattle.std.proofs.Common.{rules}
-use Prim.Native.Nat.{ℕ, ◌-◌, ◌≤◌, ◌<◌}
+use Prim.Native.Nat.{ℕ, ◌≤◌, ◌<◌}
 use mathlib.Core.Path.{◌≡◌, refl, subst, ◌∙◌}
 use mathlib.Core.Option.{none}
-use mathlib.Core.List.{List}
 use native.Mathlib.Omega.{arith}
-use lib.ListN.{length, get_or}
+use lib.ListN.{get_or}
 use Rattle.table.specs.Node.{count, kind_at}
-use Rattle.table.specs.Rules.{Use, shape_of}
+use Rattle.table.specs.Rules.{shape_of}
 use Rattle.table.specs.Check.{refusal_at}
 use Rattle.table.specs.Inner.Place.{coded, coded_rules, most_kinds}
 use Rattle.table.proofs.CheckLaw.{Fast, sized}

@@ -1,12 +1,9 @@
 -- `named_fits` reads the kind of the operand, or that of node 0, which does not matter.
-use Rattle.std.proofs.Common.{rules}
-use Prim.Native.Nat.{◌<◌}
 use native.Mathlib.Omega.{arith}
 use mathlib.Core.Path.{◌≡◌}
-use Rattle.table.specs.Node.{count}
 use Rattle.table.specs.Rules.{Use}
 use Rattle.table.specs.Inner.Place.{coded, operand_or}
-use Rattle.psl.proofs.CheckLaw.{named_in, named_sort, low_as}
+use Rattle.psl.proofs.CheckLaw.{named_sort, low_as}
 use Rattle.psl.proofs.named_fits.Goals as goal
 use Rattle.psl.proofs.named_fits.Goals.{After-operand_of-m}
 

@@ -1,8 +1,6 @@
 -- `places_fit` tests that both places are low enough, then their sorts.
-use Rattle.std.proofs.Common.{rules}
 use mathlib.Core.Path.{◌≡◌, sym, ◌∙◌}
 use mathlib.Core.Bool.{true}
-use borrow.Author.Tests.{not-true, not-false}
 use Rattle.table.specs.Rules.{Use}
 use Rattle.table.specs.Inner.Place.{coded}
 use Rattle.psl.proofs.CheckLaw.{BothLow, not_low, left-low, right_low, low-sorts}

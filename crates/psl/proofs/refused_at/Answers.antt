@@ -1,5 +1,4 @@
 -- The code's rules are those of the check.
-use Rattle.std.proofs.Common.{rules}
 use Rattle.psl.specs.Check.{psl_rules}
 use Rattle.psl.proofs.CheckLaw.{rules-coded}
 use Rattle.psl.proofs.refused_at.Goals as goal

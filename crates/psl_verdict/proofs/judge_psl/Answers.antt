@@ -1,5 +1,4 @@
 -- `psl_verdict::judge_psl` meets its contract: the letters, then what the accepted table says.
-use Rattle.std.proofs.Common.{rules}
 use Rattle.trace.proofs.JudgesLaw.{judged, too_long, not-long}
 use Rattle.psl.specs.Check.{psl_refusal}
 use Rattle.psl_verdict.specs.Verdict.{psl_verdict_refusal}

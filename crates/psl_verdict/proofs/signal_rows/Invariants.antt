@@ -1,16 +1,11 @@
 -- `psl_verdict::signal_rows` meets its contract. The invariant: the signals of the first i nodes are known.
-use native.Mathlib.Omega.{arith}
-use mathlib.Core.Path.{◌≡◌, refl, subst, ◌∙◌}
-use mathlib.Core.Logic.{⊎_elim}
-use Prim.Native.Nat.{ℕ, ◌+◌, ◌-◌, ◌≤◌, ◌<◌}
-use native.Mathlib.Decide.{dec_lt}
+use mathlib.Core.Path.{◌≡◌}
+use Prim.Native.Nat.{ℕ, ◌-◌, ◌≤◌, ◌<◌}
 use lib.Dec.{T}
 use lib.ListN.{length}
 use Rattle.logic.specs.Letter.{bit}
 use Rattle.table.specs.Node.{count, kind_at, left_at}
-use Rattle.psl.proofs.AcceptedLaw.{is-var}
 use Rattle.rows.specs.Inner.Rows.{RowsKnown}
-use Rattle.rows.proofs.SignalLaw.{known-none}
 use Rattle.psl_verdict.proofs.signal_rows.Given as goal
 
 abbrev pub invariant-loop-i : goal.invariant-loop-i

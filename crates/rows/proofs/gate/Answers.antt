@@ -1,5 +1,4 @@
 -- Three operations of the machine, each by its law.
-use Rattle.std.proofs.Common.{rules}
 use Rattle.rows.proofs.RowLaw.{tells-not, tells-and, tells-or}
 use Rattle.rows.proofs.gate.Goals as goal
 

@@ -1,6 +1,5 @@
 -- A signal that is known stays so; another's row is made and its bit set.
-use Rattle.std.proofs.Common.{rules}
-use Rattle.std.proofs.Common.{◌≡◌, ℕ, ◌*◌, ◌/◌, ◌%◌, ◌^◌, T, subst, arith, rules}
+use Rattle.std.proofs.Common.{◌≡◌, ℕ, ◌*◌, ◌/◌, ◌%◌, ◌^◌, T, subst, arith}
 use lib.Bits.{bit_and, bit_or}
 use Rattle.logic.specs.Letter.{bit, signals}
 use Rattle.rows.proofs.SignalLaw.{bit-set, learnt}

@@ -1,5 +1,4 @@
 -- Each of the three kinds by its law.
-use Rattle.std.proofs.Common.{rules}
 use Rattle.std.proofs.Common.{◌≡◌, sym, refl, subst, arith}
 use Rattle.ltl.specs.Table.{tree_of_node}
 use Rattle.ltl.specs.Check.{LeftOperand, RightOperand}

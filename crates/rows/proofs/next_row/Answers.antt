@@ -1,6 +1,5 @@
 -- Both ways each bit is the one below it; on a loop the lowest is the one at the loop's start.
-use Rattle.std.proofs.Common.{rules}
-use Rattle.std.proofs.Common.{◌≡◌, ◌-◌, ◌%◌, arith, rules}
+use Rattle.std.proofs.Common.{◌≡◌, ◌-◌, ◌%◌, arith}
 use Rattle.rows.proofs.NextLaw.{tells-next, shifted_ended, shifted_looped}
 use Rattle.trace.specs.Limits.{most_letters}
 use Rattle.rows.proofs.next_row.Goals as goal

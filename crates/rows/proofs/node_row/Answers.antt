@@ -1,6 +1,5 @@
 -- Kind by kind, each by its function's contract.
-use Rattle.std.proofs.Common.{rules}
-use Rattle.std.proofs.Common.{◌≡◌, ℕ, zero, suc, ◌<◌, sym, refl, subst, arith, rules}
+use Rattle.std.proofs.Common.{◌≡◌, ℕ, zero, suc, ◌<◌, sym, refl, subst, arith}
 use Rattle.table.specs.Node.{node}
 use Rattle.logic.specs.Tree.{Ltl, ltrue}
 use Rattle.ltl.specs.Table.{tree_of_node}
@@ -28,12 +27,12 @@ returns-then-k-lt-NEXT c lead loop l few e n = c.logic_row.ensures lead loop l f
 
 pub returns-in-5 : goal.returns-in-5
 unfolding tree_of_node
-returns-in-5 c lead loop l few e n x r A B = let k = c.in-5.keys1 in
+returns-in-5 c lead loop l few e n x r A B = let k = c.in-5.is in
     rw k (c.next_row.ensures lead loop (x l) few e (A (subst LeftOperand (sym k) refl)))
 
 pub returns-in-6 : goal.returns-in-6
 unfolding tree_of_node
-returns-in-6 c lead loop l few e n x r A B = let k = c.in-6.keys2 in
+returns-in-6 c lead loop l few e n x r A B = let k = c.in-6.is in
     rw k (c.until_row.ensures lead loop (x l) (x r) few e (A (subst LeftOperand (sym k) refl)) (B (subst RightOperand (sym k) refl)))
 
 pub returns-in_default : goal.returns-in_default

@@ -1,7 +1,5 @@
 -- The loop goes from the first letter to the last: the row has the signal at what came before and at the first i letters.
-use Rattle.std.proofs.Common.{rules}
-use Rattle.std.proofs.Common.{◌≡◌, ℕ, ◌-◌, ◌/◌, ◌^◌, ◌≤◌, List, ◌++◌, length, get_or, take, ap, ◌∙◌, subst, append-nil, arith}
-use lib.Bits.{mask_lt}
+use Rattle.std.proofs.Common.{◌≡◌, ℕ, List, ◌++◌, length, take, ap, ◌∙◌, subst, append-nil, arith}
 use lib.Seq.{take-length}
 use Rattle.rows.specs.Inner.Rows.{SignalIn}
 use Rattle.rows.proofs.SignalLaw.{signal_step}

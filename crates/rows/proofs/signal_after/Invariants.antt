@@ -1,9 +1,6 @@
 -- The loop goes from the first letter to the last: the row has the signal at what came before and at the first i letters.
-use Rattle.std.proofs.Common.{◌≡◌, ℕ, ◌-◌, ◌/◌, ◌^◌, ◌≤◌, List, ◌++◌, length, get_or, take, ap, ◌∙◌, subst, append-nil, arith}
-use lib.Bits.{mask_lt}
-use lib.Seq.{take-length}
+use Rattle.std.proofs.Common.{ℕ, ◌-◌, ◌≤◌, List, ◌++◌, length, take}
 use Rattle.rows.specs.Inner.Rows.{SignalIn}
-use Rattle.rows.proofs.SignalLaw.{signal_step}
 use Rattle.rows.proofs.signal_after.Given as goal
 
 abbrev pub invariant-loop-i : goal.invariant-loop-i

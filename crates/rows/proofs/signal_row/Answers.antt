@@ -1,6 +1,5 @@
 -- The lead-in's letters with nothing before them, then the loop's with the lead-in's before them.
-use Rattle.std.proofs.Common.{rules}
-use Rattle.std.proofs.Common.{[], arith, rules}
+use Rattle.std.proofs.Common.{[], arith}
 use Rattle.rows.proofs.RowLaw.{tells-var}
 use Rattle.rows.proofs.signal_row.Goals as goal
 

@@ -1,6 +1,5 @@
 -- Once on a finite trace, twice on a loop.
-use Rattle.std.proofs.Common.{rules}
-use Rattle.std.proofs.Common.{◌≡◌, ℕ, ◌-◌, ◌/◌, ◌%◌, ◌^◌, length, sym, ◌∙◌, subst, arith, rules}
+use Rattle.std.proofs.Common.{◌≡◌, ℕ, ◌-◌, ◌/◌, ◌%◌, ◌^◌, length, sym, ◌∙◌, subst, arith}
 use Rattle.logic.specs.Letter.{bit}
 use Rattle.rows.specs.Inner.Rows.{Swept}
 use Rattle.rows.proofs.UntilLaw.{tells-until_once, tells-until_twice}

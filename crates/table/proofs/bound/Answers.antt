@@ -1,5 +1,4 @@
 -- `bound` chooses by the place's number: i for an operand, or else the number itself.
-use Rattle.std.proofs.Common.{rules}
 use Rattle.table.proofs.PlaceLaw.{decides}
 use Rattle.table.proofs.bound.Goals as goal
 

@@ -1,11 +1,4 @@
 -- `check_node` answers for the kind, then for the places.
-use Rattle.std.proofs.Common.{rules}
-use Prim.Native.Nat.{◌<◌}
-use native.Mathlib.Omega.{arith}
-use lib.Dec.{ltb}
-use borrow.Author.Tests.{not-true, not-false, ltb-true}
-use Rattle.table.specs.Inner.Place.{most_kinds}
-use Rattle.table.proofs.CheckLaw.{both_true}
 use Rattle.table.proofs.PlaceLaw.{kind-refused, places-answer}
 use Rattle.table.proofs.check_node.Goals as goal
 

@@ -1,5 +1,4 @@
 -- `check_places` answers the first test that fails: the calls of `unless` nest as the definition does.
-use Rattle.std.proofs.Common.{rules}
 use mathlib.Core.Path.{◌≡◌, refl, ap, ◌∙◌}
 use mathlib.Core.Option.{none}
 use Rattle.table.specs.Answer.{checked}

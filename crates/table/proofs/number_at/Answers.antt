@@ -1,5 +1,4 @@
 -- `number_at` reads a number: past the end of the list both are 0.
-use Rattle.std.proofs.Common.{rules}
 use mathlib.Core.Path.{sym}
 use lib.ListN.{get_or-eq_default}
 use Rattle.table.proofs.number_at.Goals as goal

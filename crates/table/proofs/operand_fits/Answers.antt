@@ -1,5 +1,4 @@
 -- A number past all limits tells an operand.
-use Rattle.std.proofs.Common.{rules}
 use Rattle.table.proofs.PlaceLaw.{decides}
 use Rattle.table.proofs.operand_fits.Goals as goal
 

@@ -1,5 +1,4 @@
 -- `operand_of` keeps the bits that the place's number has.
-use Rattle.std.proofs.Common.{rules}
 use Rattle.table.proofs.PlaceLaw.{decides}
 use Rattle.table.proofs.operand_of.Goals as goal
 

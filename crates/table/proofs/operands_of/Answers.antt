@@ -1,5 +1,4 @@
 -- `operands_of` reads a bit that the numbers of operands alone have.
-use Rattle.std.proofs.Common.{rules}
 use Rattle.table.proofs.PlaceLaw.{decides}
 use Rattle.table.proofs.operands_of.Goals as goal
 

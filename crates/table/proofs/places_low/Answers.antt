@@ -1,5 +1,4 @@
 -- `places_low` holds each place to its bound.
-use Rattle.std.proofs.Common.{rules}
 
 use Rattle.table.proofs.places_low.Goals as goal
 

@@ -1,5 +1,4 @@
 -- `refused_at` reads the node and the kinds of what its places name, 0 past the end of the list, as the definition does.
-use Rattle.std.proofs.Common.{rules}
 use mathlib.Core.Path.{ap, ◌∙◌}
 use Rattle.table.specs.Answer.{checked}
 use Rattle.table.proofs.CheckLaw.{read-node}

@@ -1,5 +1,4 @@
 -- The number of signals tells a signal.
-use Rattle.std.proofs.Common.{rules}
 use Rattle.table.proofs.PlaceLaw.{decides}
 use Rattle.table.proofs.signal_fits.Goals as goal
 

@@ -1,5 +1,4 @@
 -- `sort_fits` tests the sort of an operand, and of nothing else.
-use Rattle.std.proofs.Common.{rules}
 use Rattle.table.proofs.PlaceLaw.{decides}
 use Rattle.table.proofs.sort_fits.Goals as goal
 

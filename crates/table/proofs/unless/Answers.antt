@@ -1,5 +1,4 @@
 -- `unless` keeps what the later tests answer, or refuses.
-use Rattle.std.proofs.Common.{rules}
 
 use Rattle.table.proofs.unless.Goals as goal
 

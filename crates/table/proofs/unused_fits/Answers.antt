@@ -1,5 +1,4 @@
 -- The number 1 tells an unused place.
-use Rattle.std.proofs.Common.{rules}
 use Rattle.table.proofs.PlaceLaw.{decides}
 use Rattle.table.proofs.unused_fits.Goals as goal
 

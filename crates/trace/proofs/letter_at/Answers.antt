@@ -1,10 +1,4 @@
-use Rattle.std.proofs.Common.{rules}
 use native.Mathlib.Omega.{arith}
-use native.Mathlib.Nat.{mod-lt, pos_of_ne-zero}
-use mathlib.Core.Path.{◌≡◌}
-use mathlib.Core.List.{List}
-use Prim.Native.Nat.{ℕ, ◌-◌, ◌*◌, ◌%◌, ◌^◌, ◌<◌}
-use lib.ListN.{length}
 use Rattle.logic.proofs.MomentsLaw.{letter_lead, letter_loop, letter_none}
 use Rattle.trace.proofs.letter_at.Goals as goal
 

@@ -1,5 +1,4 @@
 -- Past the end a store changes nothing.
-use Rattle.std.proofs.Common.{rules}
 use mathlib.Core.Path.{sym}
 use lib.Seq.{set_out}
 use Rattle.trace_lines.proofs.put_letter.Goals as goal

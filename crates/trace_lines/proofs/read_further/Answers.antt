@@ -1,12 +1,11 @@
 -- The loop keeps what was read so far; whatever the reader finds from there on it finds from the start on.
 use Rattle.std.proofs.Common.{rules}
 use native.Mathlib.Omega.{arith}
-use mathlib.Core.Path.{◌≡◌, refl, sym, subst, ◌∙◌}
-use Prim.Native.Nat.{◌+◌, ◌-◌}
-use lib.ListN.{length}
+use mathlib.Core.Path.{refl, sym, subst, ◌∙◌}
+use Prim.Native.Nat.{◌+◌}
 use Rattle.trace_lines.specs.Inner.LettersReader.{LetterRead}
 use Rattle.text.proofs.PlaceLaw.{stands_one}
-use Rattle.trace_lines.proofs.LettersLaw.{SoFar, none_yet, one_more, no_letter, no_end, letters_end}
+use Rattle.trace_lines.proofs.LettersLaw.{none_yet, one_more, no_letter, no_end, letters_end}
 use Rattle.trace_lines.proofs.read_further.Goals as goal
 
 pub loop-out-init : goal.loop-out-init
@@ -26,7 +25,7 @@ returns-in-FaultAt c = let x = c.args in
     let i = c.loop-out.i in
     let inv = c.loop-out.invariant.1 in
     let o = stands_one {s = s} 32 (sym c.byte.ensures.0 ∙ c.loop-out-test.true) (c.byte.ensures.1 (omega (arith, c.loop-out-test.true))) in
-    inv.stops (no_letter o (subst (LetterRead s (i + 1) c.loop-out.count c.loop-out.out c.read_letter.new.out) c.p-1.given.1 c.read_letter.ensures))
+    inv.stops (no_letter o (subst (LetterRead s (i + 1) c.loop-out.count c.loop-out.out c.read_letter.new.out) c.in-FaultAt.is c.read_letter.ensures))
 
 pub loop-out-smaller : goal.loop-out-smaller
 loop-out-smaller c = let x = c.args in
@@ -34,7 +33,7 @@ loop-out-smaller c = let x = c.args in
     let i = c.loop-out.i in
     let inv = c.loop-out.invariant.1 in
     let o = stands_one {s = s} 32 (sym c.byte.ensures.0 ∙ c.loop-out-test.true) (c.byte.ensures.1 (omega (arith, c.loop-out-test.true))) in
-    let (v, a) = subst (LetterRead s (i + 1) c.loop-out.count c.loop-out.out c.read_letter.new.out) c.next-1.given.1 c.read_letter.ensures in
+    let (v, a) = subst (LetterRead s (i + 1) c.loop-out.count c.loop-out.out c.read_letter.new.out) c.in-Found.is c.read_letter.ensures in
     omega (arith, a.stands.more, a.stands.stands.within, inv.within)
 
 pub loop-out-preserved : goal.loop-out-preserved
@@ -43,7 +42,7 @@ loop-out-preserved c = let x = c.args in
     let i = c.loop-out.i in
     let inv = c.loop-out.invariant.1 in
     let o = stands_one {s = s} 32 (sym c.byte.ensures.0 ∙ c.loop-out-test.true) (c.byte.ensures.1 (omega (arith, c.loop-out-test.true))) in
-    let (v, a) = subst (LetterRead s (i + 1) c.loop-out.count c.loop-out.out c.read_letter.new.out) c.next-1.given.1 c.read_letter.ensures in
+    let (v, a) = subst (LetterRead s (i + 1) c.loop-out.count c.loop-out.out c.read_letter.new.out) c.in-Found.is c.read_letter.ensures in
     (search rules, one_more inv o a c.either-large.result c.either-large.ensures)
 
 pub returns-then-byte-ne41 : goal.returns-then-byte-ne41

@@ -1,11 +1,8 @@
 -- The loop keeps what was read so far; whatever the reader finds from there on it finds from the start on.
-use native.Mathlib.Omega.{arith}
-use mathlib.Core.Path.{◌≡◌, refl, sym, subst, ◌∙◌}
-use Prim.Native.Nat.{◌+◌, ◌-◌}
+use mathlib.Core.Path.{◌≡◌}
+use Prim.Native.Nat.{◌-◌}
 use lib.ListN.{length}
-use Rattle.trace_lines.specs.Inner.LettersReader.{LetterRead}
-use Rattle.text.proofs.PlaceLaw.{stands_one}
-use Rattle.trace_lines.proofs.LettersLaw.{SoFar, none_yet, one_more, no_letter, no_end, letters_end}
+use Rattle.trace_lines.proofs.LettersLaw.{SoFar}
 use Rattle.trace_lines.proofs.read_further.Given as goal
 
 abbrev pub invariant-loop-out : goal.invariant-loop-out

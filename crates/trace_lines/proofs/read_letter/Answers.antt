@@ -1,5 +1,4 @@
 -- A number; above the largest letter it is only said to be large.
-use Rattle.std.proofs.Common.{rules}
 use native.Mathlib.Omega.{arith}
 use mathlib.Core.Path.{subst}
 use Rattle.text.specs.Inner.Scan.{NumberRead}
@@ -12,18 +11,18 @@ pub returns-in-FaultAt : goal.returns-in-FaultAt
 returns-in-FaultAt c = let x = c.args in
     let s = x.s.now in
     let at = x.at in
-    (subst (NumberRead s at (2 ^ signals - 1)) c.p-1.given.1 c.read_number.ensures).0 c.requires.within
+    (subst (NumberRead s at (2 ^ signals - 1)) c.in-FaultAt.is c.read_number.ensures).0 c.requires.within
 
 pub returns-in-Large : goal.returns-in-Large
 returns-in-Large c = let x = c.args in
     let s = x.s.now in
     let at = x.at in
-    let (v, h, a) = subst (NumberRead s at (2 ^ signals - 1)) c.next-1.given.1 c.read_number.ensures in
+    let (v, h, a) = subst (NumberRead s at (2 ^ signals - 1)) c.in-Large.is c.read_number.ensures in
     (v, letter_large a (omega (arith, h)) x.out.now)
 
 pub returns-in-Small : goal.returns-in-Small
 returns-in-Small c = let x = c.args in
     let s = x.s.now in
     let at = x.at in
-    let (h, a) = subst (NumberRead s at (2 ^ signals - 1)) c.value-1.given.1 c.read_number.ensures in
-    (c.value-1.given.0.0, letter_small a (omega (arith, h)) c.put_letter.ensures)
+    let (h, a) = subst (NumberRead s at (2 ^ signals - 1)) c.in-Small.is c.read_number.ensures in
+    (c.in-Small.value, letter_small a (omega (arith, h)) c.put_letter.ensures)

@@ -1,5 +1,4 @@
 -- An empty list, or some letters.
-use Rattle.std.proofs.Common.{rules}
 use native.Mathlib.Omega.{arith}
 use mathlib.Core.Path.{sym, ◌∙◌}
 use Rattle.trace_lines.proofs.LettersLaw.{empty_list, some_list}
@@ -10,4 +9,4 @@ returns-then-byte-eq41 c = empty_list (sym c.byte.ensures.0 ∙ c.if-byte-eq41.t
 
 pub returns : goal.returns
 returns c = let x = c.args in
-    some_list x.s.now x.at x.out.now c.read_Some.new.1.1.0 (λ e. c.if-byte-eq41.false (c.byte.ensures.0 ∙ e)) c.read_Some.result c.read_Some.ensures
+    some_list x.s.now x.at x.out.now c.read_some.new.out (λ e. c.if-byte-eq41.false (c.byte.ensures.0 ∙ e)) c.read_some.result c.read_some.ensures

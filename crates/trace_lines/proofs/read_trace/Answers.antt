@@ -1,5 +1,4 @@
 -- Each refusal from the reading with no room; then the same reading fills the lent lists.
-use Rattle.std.proofs.Common.{rules}
 use native.Mathlib.Omega.{arith}
 use mathlib.Core.Path.{subst}
 use mathlib.Core.List.{[], ◌∷◌}
@@ -20,7 +19,7 @@ returns-then-large c = let x = c.args in
     let l = x.lead.now in
     let m = x.cycle.now in
     let short : length s ≤ most_bytes = omega (arith, c.if-line-gt-MOST_BYTES.false) in
-    let (lead, loop, e, dry) = subst (ListsRead whole_line s 0 (0 ∷ []) (0 ∷ []) c.read_lists.new.lead c.read_lists.new.cycle) c.a-1.given.1 c.read_lists.ensures in
+    let (lead, loop, e, dry) = subst (ListsRead whole_line s 0 (0 ∷ []) (0 ∷ []) c.read_lists.new.lead c.read_lists.new.cycle) c.in-Found.is c.read_lists.ensures in
     large_letter_lem l m lead loop short e dry c.if-large.true
 
 pub returns-then-a-gt-MOST_LETTERS : goal.returns-then-a-gt-MOST_LETTERS
@@ -29,7 +28,7 @@ returns-then-a-gt-MOST_LETTERS c = let x = c.args in
     let l = x.lead.now in
     let m = x.cycle.now in
     let short : length s ≤ most_bytes = omega (arith, c.if-line-gt-MOST_BYTES.false) in
-    let (lead, loop, e, dry) = subst (ListsRead whole_line s 0 (0 ∷ []) (0 ∷ []) c.read_lists.new.lead c.read_lists.new.cycle) c.a-1.given.1 c.read_lists.ensures in
+    let (lead, loop, e, dry) = subst (ListsRead whole_line s 0 (0 ∷ []) (0 ∷ []) c.read_lists.new.lead c.read_lists.new.cycle) c.in-Found.is c.read_lists.ensures in
     many_letters l m lead loop short e dry c.if-large.false (omega (arith, c.if-a-gt-MOST_LETTERS.true))
 
 pub returns-then-a-b : goal.returns-then-a-b
@@ -38,7 +37,7 @@ returns-then-a-b c = let x = c.args in
     let l = x.lead.now in
     let m = x.cycle.now in
     let short : length s ≤ most_bytes = omega (arith, c.if-line-gt-MOST_BYTES.false) in
-    let (lead, loop, e, dry) = subst (ListsRead whole_line s 0 (0 ∷ []) (0 ∷ []) c.read_lists.new.lead c.read_lists.new.cycle) c.a-1.given.1 c.read_lists.ensures in
+    let (lead, loop, e, dry) = subst (ListsRead whole_line s 0 (0 ∷ []) (0 ∷ []) c.read_lists.new.lead c.read_lists.new.cycle) c.in-Found.is c.read_lists.ensures in
     many_letters l m lead loop short e dry c.if-large.false (omega (arith, c.if-a-gt-MOST_LETTERS.false, c.if-a-b.true))
 
 pub returns-then-lead-a : goal.returns-then-lead-a
@@ -47,7 +46,7 @@ returns-then-lead-a c = let x = c.args in
     let l = x.lead.now in
     let m = x.cycle.now in
     let short : length s ≤ most_bytes = omega (arith, c.if-line-gt-MOST_BYTES.false) in
-    let (lead, loop, e, dry) = subst (ListsRead whole_line s 0 (0 ∷ []) (0 ∷ []) c.read_lists.new.lead c.read_lists.new.cycle) c.a-1.given.1 c.read_lists.ensures in
+    let (lead, loop, e, dry) = subst (ListsRead whole_line s 0 (0 ∷ []) (0 ∷ []) c.read_lists.new.lead c.read_lists.new.cycle) c.in-Found.is c.read_lists.ensures in
     no-room-lead l m lead loop short e dry c.if-large.false (omega (arith, c.if-a-gt-MOST_LETTERS.false, c.if-a-b.false)) c.if-lead-a.true
 
 pub returns-then-cycle-b : goal.returns-then-cycle-b
@@ -56,7 +55,7 @@ returns-then-cycle-b c = let x = c.args in
     let l = x.lead.now in
     let m = x.cycle.now in
     let short : length s ≤ most_bytes = omega (arith, c.if-line-gt-MOST_BYTES.false) in
-    let (lead, loop, e, dry) = subst (ListsRead whole_line s 0 (0 ∷ []) (0 ∷ []) c.read_lists.new.lead c.read_lists.new.cycle) c.a-1.given.1 c.read_lists.ensures in
+    let (lead, loop, e, dry) = subst (ListsRead whole_line s 0 (0 ∷ []) (0 ∷ []) c.read_lists.new.lead c.read_lists.new.cycle) c.in-Found.is c.read_lists.ensures in
     no-room-loop l m lead loop short e dry c.if-large.false (omega (arith, c.if-a-gt-MOST_LETTERS.false, c.if-a-b.false)) c.if-cycle-b.true
 
 pub returns-in-FaultAt : goal.returns-in-FaultAt
@@ -65,7 +64,7 @@ returns-in-FaultAt c = let x = c.args in
     let l = x.lead.now in
     let m = x.cycle.now in
     let short : length s ≤ most_bytes = omega (arith, c.if-line-gt-MOST_BYTES.false) in
-    no-trace s l m short (subst (ListsRead whole_line s 0 (0 ∷ []) (0 ∷ []) c.read_lists.new.lead c.read_lists.new.cycle) c.p-1.given.1 c.read_lists.ensures)
+    no-trace s l m short (subst (ListsRead whole_line s 0 (0 ∷ []) (0 ∷ []) c.read_lists.new.lead c.read_lists.new.cycle) c.in-FaultAt.is c.read_lists.ensures)
 
 pub returns-else-cycle-b : goal.returns-else-cycle-b
 returns-else-cycle-b c = let x = c.args in
@@ -73,6 +72,6 @@ returns-else-cycle-b c = let x = c.args in
     let l = x.lead.now in
     let m = x.cycle.now in
     let short : length s ≤ most_bytes = omega (arith, c.if-line-gt-MOST_BYTES.false) in
-    let (lead, loop, e, dry) = subst (ListsRead whole_line s 0 (0 ∷ []) (0 ∷ []) c.read_lists.new.lead c.read_lists.new.cycle) c.a-1.given.1 c.read_lists.ensures in
+    let (lead, loop, e, dry) = subst (ListsRead whole_line s 0 (0 ∷ []) (0 ∷ []) c.read_lists.new.lead c.read_lists.new.cycle) c.in-Found.is c.read_lists.ensures in
     letters-read l m lead loop short e dry c.if-large.false (omega (arith, c.if-a-gt-MOST_LETTERS.false, c.if-a-b.false)) (omega (arith, c.if-lead-a.false)) (omega (arith, c.if-cycle-b.false))
     c.read_lists-in-Found.new.lead c.read_lists-in-Found.new.cycle c.read_lists-in-Found.result c.read_lists-in-Found.ensures

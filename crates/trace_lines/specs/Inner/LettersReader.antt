@@ -10,9 +10,7 @@ use Rattle.text.specs.Inner.Number.{Numeral, Numbered}
 use Rattle.text.specs.Inner.Scan.{NumberStands}
 use Rattle.trace_lines.specs.TraceAnswer.{large_letter}
 use Rattle.trace_lines.specs.declared.Letters.{Letters}
-use Rattle.trace_lines.specs.declared.Letters.TheVariants as Letters
 use Rattle.trace_lines.specs.declared.Lists.{Lists}
-use Rattle.trace_lines.specs.declared.Lists.TheVariants as Lists
 
 -- ── A letter ──
 

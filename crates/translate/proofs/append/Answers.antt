@@ -1,5 +1,4 @@
 -- `translate::append` meets its contract: the node behind the last one.
-use Rattle.std.proofs.Common.{rules}
 use Rattle.translate.proofs.StoredLaw.{walks-node}
 use Rattle.translate.proofs.append.Goals as goal
 

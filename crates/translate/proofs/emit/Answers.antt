@@ -1,11 +1,14 @@
 -- `translate::emit` meets its contract: true, not 0, then the walk from the root.
-use Rattle.std.proofs.Common.{rules}
 use native.Mathlib.Omega.{arith}
-use mathlib.Core.List.{List}
-use Prim.Native.Nat.{ℕ}
 use Rattle.psl.proofs.AcceptedLaw.{some-node, most-nodes, root-formula}
 use Rattle.translate.proofs.DeliversLaw.{size_of, size-most, emits}
 use Rattle.translate.proofs.emit.Goals as goal
+
+pub overflow_sub-root : goal.overflow_sub-root
+overflow_sub-root c = omega (arith, some-node c.args.t.now c.requires.0)
+
+pub overflow_cast-root : goal.overflow_cast-root
+overflow_cast-root c = omega (arith, most-nodes c.args.t.now c.requires.0)
 
 pub walk-requires : goal.walk-requires
 walk-requires c =

@@ -1,11 +1,8 @@
 -- `translate::emitted_size` meets its contract: the kinds' numbers, added up over the table, are the formula's (the tree theorem).
-use Rattle.std.proofs.Common.{rules}
 use native.Mathlib.Omega.{arith}
 use mathlib.Core.Path.{refl}
-use Prim.Native.Nat.{◌-◌}
 use Rattle.psl.specs.Check.{total}
-use Rattle.psl.proofs.AcceptedLaw.{most-nodes}
-use Rattle.translate.proofs.DeliversLaw.{SizeSoFar, size-next, size-last}
+use Rattle.translate.proofs.DeliversLaw.{size-next, size-last}
 use Rattle.translate.proofs.emitted_size.Goals as goal
 
 pub loop-i-init : goal.loop-i-init

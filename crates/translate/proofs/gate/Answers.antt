@@ -1,5 +1,4 @@
 -- `translate::gate` meets its contract: its three nodes, one after the other.
-use Rattle.std.proofs.Common.{rules}
 use Rattle.translate.proofs.StoredLaw.{walks-gate}
 use Rattle.translate.proofs.gate.Goals as goal
 

@@ -1,5 +1,4 @@
 -- `translate::literal` meets its contract: a Boolean's walk, then its gate.
-use Rattle.std.proofs.Common.{rules}
 use Rattle.translate.proofs.StoredLaw.{walks_on}
 use Rattle.translate.proofs.literal.Goals as goal
 

@@ -1,5 +1,4 @@
 -- `translate::next_gate` meets its contract: a next, then the gate.
-use Rattle.std.proofs.Common.{rules}
 use Rattle.translate.proofs.StoredLaw.{walks_on}
 use Rattle.translate.proofs.next_gate.Goals as goal
 

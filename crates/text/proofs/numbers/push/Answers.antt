@@ -1,5 +1,4 @@
 -- Whether the number stays within the limit is settled by a division, so that nothing wraps.
-use Rattle.std.proofs.Common.{rules}
 use native.Mathlib.Omega.{arith}
 use Rattle.text.proofs.ScanLaw.{counts_stay, counts-over, counts-fits}
 use Rattle.text.proofs.numbers.push.Goals as goal

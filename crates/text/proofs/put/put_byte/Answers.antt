@@ -1,5 +1,4 @@
 -- Past the end nothing is stored, and the place stays.
-use Rattle.std.proofs.Common.{rules}
 use Rattle.text.proofs.WriterLaw.{byte_out}
 use Rattle.text.proofs.put.put_byte.Goals as goal
 

@@ -1,5 +1,4 @@
 -- A digit, then the next.
-use Rattle.std.proofs.Common.{rules}
 use Rattle.text.proofs.WriterLaw.{wrote_join}
 use Rattle.text.proofs.put.put_pair.Goals as goal
 

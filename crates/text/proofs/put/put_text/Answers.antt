@@ -1,10 +1,8 @@
 -- The loop keeps: the first i bytes are put.
 use Rattle.std.proofs.Common.{rules}
 use native.Mathlib.Omega.{arith}
-use mathlib.Core.Path.{◌≡◌, refl}
-use Prim.Native.Nat.{◌-◌}
-use lib.ListN.{length}
-use Rattle.text.proofs.WriterLaw.{Stored, wrote_none, stored_more, stored_all}
+use mathlib.Core.Path.{refl}
+use Rattle.text.proofs.WriterLaw.{wrote_none, stored_more, stored_all}
 use Rattle.text.proofs.put.put_text.Goals as goal
 
 pub loop-i-init : goal.loop-i-init

@@ -1,9 +1,8 @@
 -- The loop keeps: the first i bytes are put.
-use native.Mathlib.Omega.{arith}
-use mathlib.Core.Path.{◌≡◌, refl}
+use mathlib.Core.Path.{◌≡◌}
 use Prim.Native.Nat.{◌-◌}
 use lib.ListN.{length}
-use Rattle.text.proofs.WriterLaw.{Stored, wrote_none, stored_more, stored_all}
+use Rattle.text.proofs.WriterLaw.{Stored}
 use Rattle.text.proofs.put.put_text.Given as goal
 
 abbrev pub invariant-loop-i : goal.invariant-loop-i

@@ -1,10 +1,8 @@
 -- The loop keeps: the first i bytes of the word stand, and the line has as many from the place on: so no place overflows, wherever the reading began.
-use Rattle.std.proofs.Common.{rules}
 use native.Mathlib.Omega.{arith}
 use mathlib.Core.Path.{sym, ◌∙◌}
-use Prim.Native.Nat.{◌+◌, ◌-◌, ◌<◌, ◌≤◌}
-use lib.ListN.{length, take}
-use Rattle.text.specs.Inner.Places.{Stands}
+use Prim.Native.Nat.{◌+◌, ◌<◌}
+use lib.ListN.{length}
 use Rattle.text.proofs.ScanLaw.{word_none, word_more, word-part, word-whole}
 use Rattle.text.proofs.scan.match_word.Goals as goal
 

@@ -1,0 +1,15 @@
+-- `brancadol::brancadol_rest` meets its contract: the length of the part, and its letters.
+use Rattle.std.proofs.Common.{rules}
+use mathlib.Core.Path.{ap, ◌∙◌}
+use mathlib.Core.List.{List}
+use Prim.Native.Nat.{ℕ}
+use lib.ListN.{length}
+use lib.Seq.{sets}
+use Rattle.brancadol.specs.Coded.{success_code}
+use Rattle.brancadol.proofs.brancadol_rest.Goals as goal
+
+pub returns : goal.returns
+returns c = (
+      c.success_code.ensures ∙ ap (λ (l : List ℕ). success_code (length l)) c.rest_of-part.ensures.content,
+      c.copy.ensures ∙ ap (sets c.args.out.now 0) c.rest_of-part.ensures.content,
+    )

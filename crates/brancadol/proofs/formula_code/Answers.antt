@@ -1,0 +1,11 @@
+-- `brancadol::formula_code` meets its contract, case by case.
+use Rattle.std.proofs.Common.{rules}
+use mathlib.Core.Path.{sym, ap, ◌∙◌}
+use Rattle.brancadol.specs.Coded.{formula_code}
+use Rattle.brancadol.proofs.formula_code.Goals as goal
+
+pub returns-in-Nodes : goal.returns-in-Nodes
+returns-in-Nodes c = c.success_code.ensures ∙ sym (ap formula_code c.in-Nodes.is)
+
+pub returns-in-Refused : goal.returns-in-Refused
+returns-in-Refused c = c.refusal_code.ensures ∙ sym (ap formula_code c.in-Refused.is)

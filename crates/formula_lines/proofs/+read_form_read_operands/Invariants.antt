@@ -1,0 +1,9 @@
+-- The measure is twice what is left of the line, and one more for the operands.
+use Rattle.std.proofs.Common.{◌+◌, ◌*◌, ◌-◌, length}
+use Rattle.formula_lines.proofs.+read_form_read_operands.Given as goal
+
+abbrev pub decreases-read_form : goal.decreases-read_form
+decreases-read_form l = 2 * (length l.s.now - l.at)
+
+abbrev pub decreases-read_operands : goal.decreases-read_operands
+decreases-read_operands l = 2 * (length l.s.now - l.at) + 1
