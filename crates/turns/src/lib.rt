@@ -1,7 +1,8 @@
 // A run on standard input and output: each turn reads a block, has it taken, and writes what it printed.
 #![tactic(auto)]
 
-ghost use Rattle.std.specs.Prelude.{◌≡◌, ◌⊎◌, true, false, length};
+ghost use Rattle.std.specs.Prelude.{◌≡◌, ◌≢◌, ◌⊎◌, true, false, length};
+ghost use Rattle.std.specs.IoError.{error_kind};
 ghost use Rattle.state.specs.Inner.{Within, ListsFit, stopped, idle};
 ghost use Rattle.turns.specs.Turn.{Turned, Moved, Whole};
 
@@ -11,7 +12,9 @@ use std::io::{Error, ErrorKind, Read, Write};
 
 // A read failed. One that was interrupted is tried again; any other is told and stops the run, so that half a line is never taken for one.
 fn stop_unless_interrupted(told: &impl Eprint, e: Error, s: State) -> State
-    ensures { (result ≡ idle s) ⊎ (result ≡ stopped s) }
+    ensures either { (result ≡ idle s) ⊎ (result ≡ stopped s) }
+    ensures again { error_kind e ≡ ErrorKind.Interrupted → result ≡ idle s }
+    ensures stops { error_kind e ≢ ErrorKind.Interrupted → result ≡ stopped s }
 {
     if e.kind() == ErrorKind::Interrupted {
         let mut r = s;
