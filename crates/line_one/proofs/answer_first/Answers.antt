@@ -11,7 +11,7 @@ use Rattle.line_one.proofs.answer_first.Goals as goal
 pub returns-in-Refused : goal.returns-in-Refused
 returns-in-Refused c = let x = c.args in
     let at-put-refused = c.put_refused in
-    λ h k. first-refused x.line.now x.out.now at-put-refused.new.0 c.first_line.new.psl c.first_line.new.ltl c.first_line.result (c.first_line.ensures.answers h k) at-put-refused.result c.in-Refused.x c.in-Refused.is at-put-refused.ensures.0 at-put-refused.ensures.1
+    λ h k. first-refused x.line.now x.out.now at-put-refused.new.out c.first_line.new.psl c.first_line.new.ltl c.first_line.result (c.first_line.ensures.answers h k) at-put-refused.result c.in-Refused.x c.in-Refused.is at-put-refused.ensures.0 at-put-refused.ensures.1
 
 pub returns-in-Tables : goal.returns-in-Tables
 returns-in-Tables c = let x = c.args in

@@ -20,13 +20,13 @@ pub returns-then-not-r : goal.returns-then-not-r
 returns-then-not-r c = let x = c.args in
     let pre = c.requires in
     let low = c.loop-i-test.true in
-    feeding_over c.loop-i.r c.loop-i.i c.loop-i.invariant low (get_or x.block.now c.loop-i.i 0) refl c.if-b-eq10.true c.end_line-r.result c.end_line-r.ensures pre.3 c.if-not-r.true
+    feeding_over c.loop-i.r c.loop-i.i c.loop-i.invariant low (get_or x.block.now c.loop-i.i 0) refl c.if-b-eq10.true c.end_line-r.result c.end_line-r.ensures pre.3 (not-true _ c.if-not-r.true)
 
 pub loop-i-preserved-else-not-r : goal.loop-i-preserved-else-not-r
 loop-i-preserved-else-not-r c = let x = c.args in
     let pre = c.requires in
     let low = c.loop-i-test.true in
-    feeding_line c.loop-i.r c.loop-i.i c.loop-i.invariant low (get_or x.block.now c.loop-i.i 0) refl c.if-b-eq10.true c.end_line-r.result c.end_line-r.ensures c.if-not-r.false
+    feeding_line c.loop-i.r c.loop-i.i c.loop-i.invariant low (get_or x.block.now c.loop-i.i 0) refl c.if-b-eq10.true c.end_line-r.result c.end_line-r.ensures (not-false _ c.if-not-r.false)
 
 pub loop-i-preserved : goal.loop-i-preserved
 loop-i-preserved c = let x = c.args in

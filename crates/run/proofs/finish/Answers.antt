@@ -1,9 +1,9 @@
 -- The open line is answered as if byte 10 ended it.
 use Rattle.std.proofs.Common.{rules}
-use mathlib.Core.Logic.{⊎_elim}
 use native.Mathlib.Omega.{arith}
 use Rattle.run.proofs.StreamLaw.{nothing_open, line_open}
 use Rattle.run.proofs.finish.Goals as goal
+use Rattle.run.proofs.finish.Goals.{then-s-eq0+else-s-gt1, else-s-eq0}
 
 pub returns-then-s-gt1 : goal.returns-then-s-gt1
 returns-then-s-gt1 c = let x = c.args in
@@ -17,4 +17,6 @@ end_line-requires c = let at_pre = c.requires in
 pub returns : goal.returns
 returns c = let x = c.args in
     let at_pre = c.requires in
-    line_open x.s at_pre.0 at_pre.1 c.end_line.result (λ f. ⊎_elim (λ l. omega (arith, l.2.left)) (λ r. absurd (r.left f)) c.if-s-eq0.branch) c.end_line.ensures
+    line_open x.s at_pre.0 at_pre.1 c.end_line.result
+    (λ f. elim c.if-s-eq0.branch [ then-s-eq0+else-s-gt1 w ↦ omega arith | else-s-eq0 w ↦ absurd (w.if-s-eq0.false f) ])
+    c.end_line.ensures

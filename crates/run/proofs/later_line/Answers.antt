@@ -12,8 +12,8 @@ use Rattle.run.proofs.StreamLaw.{later_both}
 use Rattle.run.proofs.later_line.Goals as goal
 use Rattle.run.proofs.later_line.Goals.{In-Letters}
 
-letters : (e : In-Letters) → TraceAnswer e.args.line.now room room (TraceLine.Letters e.in-Letters.a e.in-Letters.b) e.read_trace.last.1.0 e.read_trace.last.1.1.0
-letters e = subst (λ (x : TraceLine). TraceAnswer e.args.line.now room room x e.read_trace.last.1.0 e.read_trace.last.1.1.0) e.in-Letters.is e.read_trace.ensures
+letters : (e : In-Letters) → TraceAnswer e.args.line.now room room (TraceLine.Letters e.in-Letters.a e.in-Letters.b) e.read_trace.new.lead e.read_trace.new.cycle
+letters e = subst (λ (x : TraceLine). TraceAnswer e.args.line.now room room x e.read_trace.new.lead e.read_trace.new.cycle) e.in-Letters.is e.read_trace.ensures
 
 pub returns-in-Refused : goal.returns-in-Refused
 returns-in-Refused c = let line = c.args.line.now in
@@ -21,4 +21,4 @@ returns-in-Refused c = let line = c.args.line.now in
     λ f t. later_refused line c.read_trace.new.lead c.read_trace.new.cycle a
 
 pub returns-in-Letters : goal.returns-in-Letters
-returns-in-Letters c = later_both c.args.line.now c.read_trace.last.1.0 c.read_trace.last.1.1.0 c.in-Letters.a c.in-Letters.b (letters (goal.at.returns-in-Letters c).In-Letters) c.judge_both.result c.judge_both.ensures
+returns-in-Letters c = later_both c.args.line.now c.read_trace.new.lead c.read_trace.new.cycle c.in-Letters.a c.in-Letters.b (letters (goal.at.returns-in-Letters c).In-Letters) c.judge_both.result c.judge_both.ensures
