@@ -1,6 +1,6 @@
 # Read by ./psl2ltl and ./ask, which say their usage: runs the proved program of that name on a file or on standard input.
 # The program is proved and built first where it is missing or older than its sources. Where the proof fails nothing is run: an older
-# program would answer for sources that it was not made of. Where reading or writing fails the program says so on standard error; it
+# program would answer for sources that it was not made of. Where reading or writing fails the program says so on standard error; ask
 # has no status of its own to end with, so the status is set here.
 set -eu
 here=$(cd "$(dirname "$0")" && pwd)

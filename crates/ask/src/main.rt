@@ -13,8 +13,9 @@ ghost use Rattle.std.specs.Prelude.{◌≤◌, ◌-◌};
 
 use crate::lists::first_bytes;
 use crate::requests::{Kept, answer};
-use libc::{STDIN_FILENO, STDOUT_FILENO};
 use logic::Letter;
+use std::io;
+use std::io::{ErrorKind, Read};
 use text::put::put_byte;
 
 // A line that fills its list is too long.
@@ -35,21 +36,20 @@ fn wide(b: u8) -> u16 {
     b as u16
 }
 
-// The next byte of standard input. A read that fails is told, and ends the input.
-fn next_byte() -> u16 {
+// The next byte of the input. A read that fails is told, and ends the input.
+fn next_byte(input: &mut impl Read, told: &impl Eprint) -> u16 {
     let mut one = [0u8; 1];
-    let got = libc::read(STDIN_FILENO, &mut one);
-    if got == 1 {
-        return wide(one[0]);
+    match input.read(&mut one) {
+        Ok(1) => wide(one[0]),
+        Ok(_) => END,
+        Err(e) => {
+            if e.kind() == ErrorKind::Interrupted {
+                return NOTHING;
+            }
+            let _ = eprintln!(told; "ask: standard input: {e}");
+            END
+        }
     }
-    if got == 0 {
-        return END;
-    }
-    if os::errno() == libc::EINTR {
-        return NOTHING;
-    }
-    os::fail(b"ask: standard input");
-    END
 }
 
 fn keep(line: &mut [u8], n: usize, b: u16) -> usize {
@@ -77,11 +77,11 @@ fn line_of(n: usize, last: bool) -> Line {
 }
 
 // The next line, without its byte 10. It is read byte by byte, since it is answered before more is there to read.
-fn read_line(line: &mut [u8]) -> Line {
+fn read_line(input: &mut impl Read, told: &impl Eprint, line: &mut [u8]) -> Line {
     let mut n: usize = 0;
     let mut turns = u64::MAX;
     while turns > 0 {
-        let b = next_byte();
+        let b = next_byte(input, told);
         if b == 10 {
             return line_of(n, false);
         }
@@ -95,26 +95,26 @@ fn read_line(line: &mut [u8]) -> Line {
 }
 
 // An answer and its byte 10. A line that is not understood has an empty answer, and is told so.
-fn write_answer(answer: &[u8]) -> bool {
+fn write_answer(rt: &impl Print, answer: &[u8]) -> io::Result<()> {
     if answer.len() == 0 {
-        return io::write_all(STDOUT_FILENO, b"not understood: try help\n");
+        return rt.write_all(b"not understood: try help\n");
     }
-    if io::write_all(STDOUT_FILENO, answer) {
-        return io::write_all(STDOUT_FILENO, b"\n");
-    }
-    false
+    rt.write_all(answer)?;
+    rt.write_all(b"\n")
 }
 
 // Whether the answer could be written; where not, it is told.
-fn write(out: &[u8], end: usize, got: Line) -> bool {
+fn write(rt: &(impl Print + Eprint), out: &[u8], end: usize, got: Line) -> bool {
     if got.none {
         return true;
     }
-    if write_answer(first_bytes(out, end)) {
-        return true;
+    match write_answer(rt, first_bytes(out, end)) {
+        Ok(()) => true,
+        Err(e) => {
+            let _ = eprintln!(rt; "ask: standard output: {e}");
+            false
+        }
     }
-    os::fail(b"ask: standard output");
-    false
 }
 
 // How many turns are left: none after the last line, or after an answer that could not be written.
@@ -132,6 +132,8 @@ fn left(turns: u64, got: Line, written: bool) -> u64
 
 // Lines to the input's end.
 fn answer_all(
+    input: &mut impl Read,
+    rt: &(impl Print + Eprint),
     line: &mut [u8],
     psl: &mut [u16],
     ltl: &mut [u16],
@@ -149,13 +151,13 @@ fn answer_all(
     };
     let mut turns = u64::MAX;
     while turns > 0 {
-        let got = read_line(line);
+        let got = read_line(input, rt, line);
         k = answer(line, got.length, psl, ltl, lead, cycle, out, k);
-        turns = left(turns, got, write(out, k.end, got));
+        turns = left(turns, got, write(rt, out, k.end, got));
     }
 }
 
-fn main() {
+fn main(rt: HostRuntime) {
     let mut line = [0u8; LINE_ROOM];
     let mut psl = [0u16; TABLE_ROOM];
     let mut ltl = [0u16; TABLE_ROOM];
@@ -163,6 +165,13 @@ fn main() {
     let mut cycle = [0 as Letter; LETTER_ROOM];
     let mut out = [0u8; OUT_ROOM];
     answer_all(
-        &mut line, &mut psl, &mut ltl, &mut lead, &mut cycle, &mut out,
+        &mut rt.stdin(),
+        &rt,
+        &mut line,
+        &mut psl,
+        &mut ltl,
+        &mut lead,
+        &mut cycle,
+        &mut out,
     );
 }

@@ -4,6 +4,7 @@
 ghost use Rattle.std.specs.Prelude.{◌≡◌, length};
 
 use report::{say, show};
+use std::io;
 use translate::Translation;
 
 // S, or 10,000 and the refusal.
@@ -15,27 +16,32 @@ fn answered(t: &[u16], out: &mut [u16]) -> u64 {
 }
 
 // The worked run's sheet into a list with one number to spare, and into one that is one short.
-fn worked() {
+fn worked(rt: &impl Print) -> io::Result<()> {
     let t = [1u16, 1, 0, 5, 0, 0, 8, 1, 0, 1, 0, 0, 10, 2, 3];
     let mut out = [9u16; 43];
-    say(b"worked", answered(&t, &mut out));
-    show(&out);
+    say(rt, b"worked", answered(&t, &mut out))?;
+    show(rt, &out)?;
     let mut short = [9u16; 41];
-    say(b"one short", answered(&t, &mut short));
-    show(&short);
+    say(rt, b"one short", answered(&t, &mut short))?;
+    show(rt, &short)
 }
 
 // A table that the check refuses leaves the list as it was.
-fn refused() {
+fn refused(rt: &impl Print) -> io::Result<()> {
     let mut out = [9u16; 6];
-    say(b"one node, true", answered(&[0u16, 0, 0], &mut out));
+    say(rt, b"one node, true", answered(&[0u16, 0, 0], &mut out))?;
     say(
+        rt,
         b"an operand twice",
         answered(&[0u16, 0, 0, 4, 0, 0, 7, 1, 1], &mut out),
-    );
-    say(b"signal 32", answered(&[1u16, 32, 0, 4, 0, 0], &mut out));
-    say(b"nothing", answered(&[], &mut out));
-    show(&out);
+    )?;
+    say(
+        rt,
+        b"signal 32",
+        answered(&[1u16, 32, 0, 4, 0, 0], &mut out),
+    )?;
+    say(rt, b"nothing", answered(&[], &mut out))?;
+    show(rt, &out)
 }
 
 // 1,022 nexts over (weak true).
@@ -53,17 +59,17 @@ fn chain() -> [u16; 3072]
     t
 }
 
-fn largest() {
+fn largest(rt: &impl Print) -> io::Result<()> {
     let t = chain();
     let mut out = [0u16; 12282];
-    say(b"largest", answered(&t, &mut out));
-    show(&out[12270..]);
+    say(rt, b"largest", answered(&t, &mut out))?;
+    show(rt, &out[12270..])?;
     let mut short = [0u16; 12281];
-    say(b"largest, one short", answered(&t, &mut short));
+    say(rt, b"largest, one short", answered(&t, &mut short))
 }
 
-fn main() {
-    worked();
-    refused();
-    largest();
+fn main(rt: HostRuntime) -> io::Result<()> {
+    worked(&rt)?;
+    refused(&rt)?;
+    largest(&rt)
 }

@@ -1,17 +1,23 @@
 -- What each way out of a turn gives, and that turns follow one another.
-use mathlib.Core.Path.{◌≡◌, refl, sym, subst}
+use mathlib.Core.Path.{◌≡◌, refl, ap, sym, subst, ◌∙◌}
 use mathlib.Core.Logic.{◌⊎◌, inl, inr}
 use mathlib.Core.Bool.{Bool, true, false}
-use mathlib.Core.List.{List, [], ◌++◌, append-nil}
+use mathlib.Core.List.{List, [], ◌∷◌, ◌++◌, append_assoc, append-nil}
 use Prim.Native.Nat.{ℕ, ◌+◌, ◌≤◌}
 use native.Mathlib.Omega.{arith}
 use lib.ListN.{length, take}
+use Rattle.std.proofs.Common.{None, Some}
+use Rattle.std.specs.declared.option.Option.{Option}
+use Rattle.std.specs.Io.KnownBytes.{Keeps, Appends, Consumes, IsAtEnd}
+use Rattle.std.proofs.KnownBytes.{Appends-nil, Appends-trans, Consumes-nil, Consumes-trans, Consumes-kept}
+use Rattle.answers.specs.Whole.{Runs}
 use Rattle.state.specs.Inner.{most_block, most_lines, Within, ListsFit, stopped, start, idle}
 use Rattle.state.specs.declared.State.{State}
 use Rattle.state.proofs.StateLaw.{within_as, within-idle, never}
-use Rattle.run.specs.Inner.{Going, Advanced, AdvancesOrStops, Turns, one_turn}
+use Rattle.run.specs.Inner.{Going, Ends, Advanced, AdvancesOrStops, Turns, no_turn, one_turn}
 use Rattle.run.proofs.StreamLaw.{anew}
-use Rattle.turns.specs.Turn.{Turned}
+use Rattle.run.proofs.ClaimsLaw.{claims}
+use Rattle.turns.specs.Turn.{Turned, Moved, Whole}
 
 -- ── A turn ──
 
@@ -38,24 +44,41 @@ turn_stopped {line} {psl} {ltl} {line'} {psl'} {ltl'} {out'} s r r' w e =
     subst (λ (q : State). Turned line psl ltl s q line' psl' ltl' out') (sym e)
     (record { within = within-stopped r w; block = []; stops = λ _. refl; takes = λ h. absurd (never refl h) })
 
+-- No byte was taken.
+idle_taken : {line psl ltl out : List ℕ} (s : State) → Within s line psl ltl out → s.more ≡ true → Advanced [] line psl ltl s (idle s) line psl ltl out
+idle_taken {line} {psl} {ltl} s w m =
+    record {
+      within = within-idle s w;
+      room = omega arith;
+      goes = λ _ read done a.
+          subst (λ (x : List ℕ). Going (read ++ []) x (idle s) line psl ltl) (sym (append-nil done))
+          (subst (λ (x : List ℕ). Going x done (idle s) line psl ltl) (sym (append-nil read)) (anew s a));
+      ends = λ h. absurd (never m h);
+    }
+
 -- Nothing was read.
 pub turn_idle : {line psl ltl out : List ℕ} (s r : State) → Within s line psl ltl out → s.more ≡ true → (r ≡ idle s) ⊎ (r ≡ stopped s)
     → Turned line psl ltl s r line psl ltl out
 turn_idle s r w m (inr e) = turn_stopped s s r w e
 turn_idle {line} {psl} {ltl} {out} s r w m (inl e) =
     subst (λ (q : State). Turned line psl ltl s q line psl ltl out) (sym e)
+    (record { within = within-idle s w; block = []; stops = λ h. absurd (never h (w.working m)); takes = λ _. idle_taken s w m })
+
+-- A run that stops moves nothing more.
+pub moved_stopped : {A : Type 0} (s r : State) → r ≡ stopped s → r.failed ≡ false → A
+moved_stopped s r e works = absurd (never refl (subst (λ (q : State). q.failed ≡ false) e works))
+
+pub moved_idle : {line psl ltl out : List ℕ} (input input' output : Option (List ℕ)) (s r : State) → Within s line psl ltl out → s.more ≡ true
+    → (r ≡ idle s) ⊎ (r ≡ stopped s) → Keeps input input' → r.failed ≡ false → Moved input input' output output line psl ltl s r line psl ltl out
+moved_idle input input' output s r w m (inr e) keeps works = moved_stopped s r e works
+moved_idle {line} {psl} {ltl} {out} input input' output s r w m (inl e) keeps works =
+    subst (λ (q : State). Moved input input' output output line psl ltl s q line psl ltl out) (sym e)
     (record {
-      within = within-idle s w;
       block = [];
-      stops = λ h. absurd (never h (w.working m));
-      takes = λ _. record {
-        within = within-idle s w;
-        room = omega arith;
-        goes = λ _ read done a.
-            subst (λ (x : List ℕ). Going (read ++ []) x (idle s) line psl ltl) (sym (append-nil done))
-            (subst (λ (x : List ℕ). Going x done (idle s) line psl ltl) (sym (append-nil read)) (anew s a));
-        ends = λ h. absurd (never m h);
-      };
+      takes = idle_taken s w m;
+      reads = Consumes-kept input input input' [] (Consumes-nil input) keeps;
+      writes = Appends-nil output;
+      ends = λ _ h. absurd (never m h);
     })
 
 -- ── Turns ──
@@ -69,17 +92,45 @@ within-start l =
       out_room = l.out_room;
       filled = omega arith;
       psl_nodes_fit = omega arith;
-      ltl_nodes = omega arith;
+      ltl_nodes_fit = omega arith;
       numbered = omega arith;
       working = λ _. refl;
       stored = λ h. absurd (omega arith);
     }
 
--- Some turns have been made.
-abbrev pub Underway : State → List ℕ → List ℕ → List ℕ → Type 0
-Underway s line psl ltl = (read : List ℕ) × (done : List ℕ) × Turns read done s line psl ltl
+-- Some turns have been made, and this is what they moved.
+pub record Moving (input input' output output' : Option (List ℕ)) (s : State) (line psl ltl : List ℕ) : Type 0 where
+  pub read : List ℕ
+  pub done : List ℕ
+  pub turns : Turns read done s line psl ltl
+  pub reads : Consumes input input' read
+  pub writes : Appends output output' done
 
-pub underway_turn : {line psl ltl line' psl' ltl' out' : List ℕ} (s r : State) → Underway s line psl ltl → Turned line psl ltl s r line' psl' ltl' out' → r.more ≡ true
-    → Underway r line' psl' ltl'
-underway_turn {out' = out'} s r (read, done, g) t m =
-    (read ++ t.block, done ++ take r.gathered out', one_turn g (t.takes (t.within.working m)) m)
+pub moving_start : {line psl ltl : List ℕ} (input output : Option (List ℕ)) → Moving input input output output start line psl ltl
+moving_start input output = record { read = []; done = []; turns = no_turn; reads = Consumes-nil input; writes = Appends-nil output }
+
+whole_end : (input input' output output' : Option (List ℕ)) (read block out : List ℕ) → Consumes input input' (read ++ block) → (block ≡ [] → IsAtEnd input')
+    → Ends read block out → Appends output output' out → Whole input output output'
+whole_end None input' output output' read block out c e r w = tt
+whole_end (Some xs) None output output' read block out c e r w = absurd c
+whole_end (Some xs) (Some ys) output output' read [] out c e r w =
+    (out, subst (λ (x : List ℕ). Runs x out) (sym (c ∙ ap (λ (l : List ℕ). (read ++ []) ++ l) (e refl) ∙ append-nil (read ++ []) ∙ append-nil read)) r, w)
+whole_end (Some xs) (Some ys) output output' read (b ∷ block) out c e r w =
+    (out, subst (λ (x : List ℕ). Runs x out) (sym (c ∙ append_assoc read (b ∷ block) ys)) (r ys), w)
+
+module _ {input input' input'' output output' output'' : Option (List ℕ)} {line psl ltl line' psl' ltl' out' : List ℕ} (s r : State)
+    (g : Moving input input' output output' s line psl ltl) (t : Moved input' input'' output' output'' line psl ltl s r line' psl' ltl' out') where
+  reads-on : Consumes input input'' (g.read ++ t.block)
+  reads-on = Consumes-trans input input' input'' g.read t.block g.reads t.reads
+
+  writes-on : Appends output output'' (g.done ++ take r.gathered out')
+  writes-on = Appends-trans output output' output'' g.done (take r.gathered out') g.writes t.writes
+
+  -- One turn more.
+  pub moving_turn : r.more ≡ true → Moving input input'' output output'' r line' psl' ltl'
+  moving_turn m = record { read = g.read ++ t.block; done = g.done ++ take r.gathered out'; turns = one_turn g.turns t.takes m; reads = reads-on; writes = writes-on }
+
+  -- The last turn.
+  pub moved_whole : r.more ≡ false → Whole input output output''
+  moved_whole m =
+      whole_end input input'' output output'' g.read t.block (g.done ++ take r.gathered out') reads-on (λ e. t.ends e m) (claims.turns g.turns t.takes m) writes-on

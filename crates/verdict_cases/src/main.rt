@@ -3,6 +3,7 @@
 
 use logic::Letter;
 use report::say;
+use std::io;
 use trace::Verdict;
 use translate::Translation;
 
@@ -16,106 +17,135 @@ fn code(v: Verdict) -> u64 {
 }
 
 // The LTL verdict of the emitted table.
-fn judge_translated(t: &[u16], out: &mut [u16], lead: &[Letter], cycle: &[Letter]) {
+fn judge_translated(
+    rt: &impl Print,
+    t: &[u16],
+    out: &mut [u16],
+    lead: &[Letter],
+    cycle: &[Letter],
+) -> io::Result<()> {
     match translate::translate(t, out) {
-        Translation::Refused(x) => say(b"  not translated", x.0 as u64),
+        Translation::Refused(x) => say(rt, b"  not translated", x.0 as u64),
         Translation::Nodes(s) => {
             let end = if s < 100 { 3 * s } else { 300 };
-            if end <= out.len() {
-                say(
-                    b"  translated",
-                    code(ltl_verdict::ltl_verdict(&out[..end], lead, cycle)),
-                );
+            if out.len() < end {
+                return Ok(());
             }
+            say(
+                rt,
+                b"  translated",
+                code(ltl_verdict::ltl_verdict(&out[..end], lead, cycle)),
+            )
         }
     }
 }
 
-fn judge(name: &[u8], t: &[u16], lead: &[Letter], cycle: &[Letter]) {
-    say(name, code(psl_verdict::psl_verdict(t, lead, cycle)));
+fn judge(
+    rt: &impl Print,
+    name: &[u8],
+    t: &[u16],
+    lead: &[Letter],
+    cycle: &[Letter],
+) -> io::Result<()> {
+    say(rt, name, code(psl_verdict::psl_verdict(t, lead, cycle)))?;
     let mut out = [0u16; 300];
-    judge_translated(t, &mut out, lead, cycle);
+    judge_translated(rt, t, &mut out, lead, cycle)
 }
 
 // p is signal 0, q is signal 1.
-fn known() {
-    judge(b"c1", &[1u16, 0, 0, 4, 0, 0], &[], &[]);
-    judge(b"c2", &[1u16, 0, 0, 5, 0, 0], &[], &[]);
-    judge(b"c3", &[1u16, 0, 0, 4, 0, 0, 6, 1, 0], &[], &[]);
-    judge(b"c4", &[1u16, 0, 0, 2, 0, 0, 4, 1, 0], &[], &[]);
-    judge(b"c5", &[0u16, 0, 0, 4, 0, 0, 8, 1, 0], &[0], &[]);
+fn known(rt: &impl Print) -> io::Result<()> {
+    judge(rt, b"c1", &[1u16, 0, 0, 4, 0, 0], &[], &[])?;
+    judge(rt, b"c2", &[1u16, 0, 0, 5, 0, 0], &[], &[])?;
+    judge(rt, b"c3", &[1u16, 0, 0, 4, 0, 0, 6, 1, 0], &[], &[])?;
+    judge(rt, b"c4", &[1u16, 0, 0, 2, 0, 0, 4, 1, 0], &[], &[])?;
+    judge(rt, b"c5", &[0u16, 0, 0, 4, 0, 0, 8, 1, 0], &[0], &[])?;
     judge(
+        rt,
         b"c6",
         &[1u16, 0, 0, 4, 0, 0, 6, 1, 0, 8, 2, 0, 6, 3, 0],
         &[0],
         &[],
-    );
+    )?;
     let eventually = [0u16, 0, 0, 5, 0, 0, 1, 0, 0, 5, 2, 0, 9, 1, 3];
-    judge(b"c7", &eventually, &[0], &[1]);
-    judge(b"c8", &eventually, &[], &[0]);
+    judge(rt, b"c7", &eventually, &[0], &[1])?;
+    judge(rt, b"c8", &eventually, &[], &[0])?;
     judge(
+        rt,
         b"c9",
         &[0u16, 0, 0, 2, 0, 0, 5, 1, 0, 0, 0, 0, 10, 2, 3],
         &[0],
         &[],
-    );
+    )?;
     judge(
+        rt,
         b"c10",
         &[1u16, 1, 0, 5, 0, 0, 8, 1, 0, 1, 0, 0, 10, 2, 3, 6, 4, 0],
         &[1],
         &[],
-    );
+    )
 }
 
-fn more_known() {
+fn more_known(rt: &impl Print) -> io::Result<()> {
     let twice = [
         0u16, 0, 0, 5, 0, 0, 1, 0, 0, 10, 1, 2, 6, 3, 0, 1, 0, 0, 10, 4, 5,
     ];
-    judge(b"c11", &twice, &[1], &[]);
+    judge(rt, b"c11", &twice, &[1], &[])?;
     judge(
+        rt,
         b"c12",
         &[1u16, 0, 0, 5, 0, 0, 1, 1, 0, 5, 2, 0, 9, 1, 3, 8, 4, 0],
         &[],
         &[2, 1],
-    );
+    )?;
     judge(
+        rt,
         b"p until q on loop 1",
         &[1u16, 0, 0, 5, 0, 0, 1, 1, 0, 5, 2, 0, 9, 1, 3],
         &[],
         &[1],
-    );
+    )
 }
 
 // How many letters, and a table that is refused before them.
-fn borders() {
+fn borders(rt: &impl Print) -> io::Result<()> {
     let always = [0u16, 0, 0, 4, 0, 0];
-    judge(b"64 letters, finite", &always, &[1; 64], &[]);
-    judge(b"64 letters, 1 and 63", &always, &[1; 1], &[1; 63]);
-    judge(b"65 letters, finite", &always, &[1; 65], &[]);
-    judge(b"65 letters, 64 and 1", &always, &[1; 64], &[1; 1]);
-    judge(b"65 letters, looping", &always, &[], &[1; 65]);
-    judge(b"refused table, 65 letters", &[0u16, 0, 0], &[1; 65], &[]);
+    judge(rt, b"64 letters, finite", &always, &[1; 64], &[])?;
+    judge(rt, b"64 letters, 1 and 63", &always, &[1; 1], &[1; 63])?;
+    judge(rt, b"65 letters, finite", &always, &[1; 65], &[])?;
+    judge(rt, b"65 letters, 64 and 1", &always, &[1; 64], &[1; 1])?;
+    judge(rt, b"65 letters, looping", &always, &[], &[1; 65])?;
+    judge(
+        rt,
+        b"refused table, 65 letters",
+        &[0u16, 0, 0],
+        &[1; 65],
+        &[],
+    )?;
     let one = [0u16, 0, 0];
     say(
+        rt,
         b"ltl, 65 letters",
         code(ltl_verdict::ltl_verdict(&one, &[], &[1; 65])),
-    );
+    )?;
     say(
+        rt,
         b"ltl, no letter",
         code(ltl_verdict::ltl_verdict(&one, &[], &[])),
-    );
+    )?;
     say(
+        rt,
         b"ltl, no node",
         code(ltl_verdict::ltl_verdict(&[], &[], &[])),
-    );
+    )?;
     say(
+        rt,
         b"ltl, kind 7",
         code(ltl_verdict::ltl_verdict(&[7u16, 0, 0], &[1], &[])),
-    );
+    )
 }
 
-fn main() {
-    known();
-    more_known();
-    borders();
+fn main(rt: HostRuntime) -> io::Result<()> {
+    known(&rt)?;
+    more_known(&rt)?;
+    borders(&rt)
 }
