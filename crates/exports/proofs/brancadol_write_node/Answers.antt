@@ -12,5 +12,5 @@ pub returns : goal.returns
 returns c = (
   c.node_code.ensures ∙ ap node_code c.write_node.ensures.value,
   c.write_node.ensures.out_after
-  ∙ ap (λ (x : NodeLine). node_list x (node_line c.args.own (node c.args.kind c.args.left c.args.right)) c.args.out.now) c.write_node.ensures.value,
+      ∙ ap (λ (x : NodeLine). node_list x (node_line c.args.own (node c.args.kind c.args.left c.args.right)) c.args.out.now) c.write_node.ensures.value,
 )
