@@ -87,7 +87,7 @@ pub extern "C" fn brancadol_letter_at<'a>(
     letter: &mut Letter,
 ) -> u64
     ensures value { result ≡ found_code (found (letter_at lead.now cycle.now moment)) }
-    ensures letter_after { letter.new ≡ letter_after (found (letter_at lead.now cycle.now moment)) letter.old }
+    ensures stored { letter.new ≡ letter_after (found (letter_at lead.now cycle.now moment)) letter.old }
 {
     put_letter(trace::letter_of(lead, cycle, Moment(moment)), letter)
 }

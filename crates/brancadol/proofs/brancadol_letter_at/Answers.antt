@@ -7,7 +7,7 @@ use Rattle.brancadol.specs.Answer.{letter_after}
 use Rattle.brancadol.proofs.brancadol_letter_at.Goals as goal
 
 pub returns : goal.returns
-returns c = (
-      c.put_letter.ensures.0 ∙ ap found_code c.letter_of.ensures,
-      c.put_letter.ensures.1 ∙ ap (λ (a : Found). letter_after a c.args.letter.now) c.letter_of.ensures,
-    )
+returns c = record {
+  value = c.put_letter.ensures.0 ∙ ap found_code c.letter_of.ensures;
+  stored = c.put_letter.ensures.1 ∙ ap (λ (a : Found). letter_after a c.args.letter.now) c.letter_of.ensures;
+}

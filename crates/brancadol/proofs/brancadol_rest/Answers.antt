@@ -9,7 +9,7 @@ use Rattle.brancadol.specs.Coded.{success_code}
 use Rattle.brancadol.proofs.brancadol_rest.Goals as goal
 
 pub returns : goal.returns
-returns c = (
-      c.success_code.ensures ∙ ap (λ (l : List ℕ). success_code (length l)) c.rest_of-part.ensures.content,
-      c.copy.ensures ∙ ap (sets c.args.out.now 0) c.rest_of-part.ensures.content,
-    )
+returns c = record {
+  value = c.success_code.ensures ∙ ap (λ (l : List ℕ). success_code (length l)) c.rest_of-part.ensures.content;
+  out_after = c.copy.ensures ∙ ap (sets c.args.out.now 0) c.rest_of-part.ensures.content;
+}

@@ -9,4 +9,8 @@ use Rattle.exports.specs.Coded.{node_code}
 use Rattle.exports.proofs.brancadol_write_node.Goals as goal
 
 pub returns : goal.returns
-returns c = (c.node_code.ensures ∙ ap node_code c.write_node.ensures.0, c.write_node.ensures.1 ∙ ap (λ (x : NodeLine). node_list x (node_line c.args.own (node c.args.kind c.args.left c.args.right)) c.args.out.now) c.write_node.ensures.0)
+returns c = (
+  c.node_code.ensures ∙ ap node_code c.write_node.ensures.value,
+  c.write_node.ensures.out_after
+      ∙ ap (λ (x : NodeLine). node_list x (node_line c.args.own (node c.args.kind c.args.left c.args.right)) c.args.out.now) c.write_node.ensures.value,
+)

@@ -1,6 +1,5 @@
 -- The answer, then its text.
 use Rattle.std.proofs.Common.{rules}
-
 use Rattle.run.proofs.answer_later.Goals as goal
 
 pub returns : goal.returns

@@ -12,11 +12,11 @@ returns-then-s c = λ k. never c.if-s.true k.works
 
 pub returns : goal.returns
 returns c = record {
-      filled = search rules;
-      psl_nodes_fit = search rules;
-      ltl_nodes_fit = search rules;
-      numbered = search rules;
-      counted = search rules;
-      more = not-false _ c.if-not-s.false;
-      works = c.if-s.false;
-    }
+  filled = search rules;
+  psl_nodes_fit = search rules;
+  ltl_nodes_fit = search rules;
+  numbered = search rules;
+  counted = search rules;
+  more = not-false _ c.if-not-s.false;
+  works = c.if-s.false;
+}
