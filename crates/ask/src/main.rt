@@ -16,6 +16,7 @@ use crate::requests::{Kept, answer};
 use logic::Letter;
 use std::io;
 use std::io::{ErrorKind, Read};
+use std::process::ExitCode;
 use text::put::put_byte;
 
 // A line that fills its list is too long.
@@ -27,16 +28,18 @@ const LETTER_ROOM: usize = 256;
 // A list of numbers as words: at most six bytes a number.
 const OUT_ROOM: usize = 131072;
 
-// What stands for the end of the input, and for a read that was interrupted.
+// What stands for the end of the input, for a read that was interrupted, and for one that failed.
 const END: u16 = 256;
 
 const NOTHING: u16 = 257;
+
+const FAILED: u16 = 258;
 
 fn wide(b: u8) -> u16 {
     b as u16
 }
 
-// The next byte of the input. A read that fails is told, and ends the input.
+// The next byte of the input. A read that fails is told.
 fn next_byte(input: &mut impl Read, told: &impl Eprint) -> u16 {
     let mut one = [0u8; 1];
     match input.read(&mut one) {
@@ -47,7 +50,7 @@ fn next_byte(input: &mut impl Read, told: &impl Eprint) -> u16 {
                 return NOTHING;
             }
             let _ = eprintln!(told; "ask: standard input: {e}");
-            END
+            FAILED
         }
     }
 }
@@ -59,12 +62,13 @@ fn keep(line: &mut [u8], n: usize, b: u16) -> usize {
     n
 }
 
-// A line that was read: how long it is, and whether the input ends with it. After the input's last byte 10 there is none.
+// A line that was read: how long it is, and whether the input ends with it. After the input's last byte 10 there is none, nor where a read failed.
 #[derive(Clone, Copy)]
 struct Line {
     pub length: usize,
     pub last: bool,
     pub none: bool,
+    pub failed: bool,
 }
 
 // One that is too long is taken as empty, which is no request.
@@ -73,6 +77,17 @@ fn line_of(n: usize, last: bool) -> Line {
         length: if n < LINE_ROOM { n } else { 0 },
         last,
         none: if last { n == 0 } else { false },
+        failed: false,
+    }
+}
+
+// No line, since a read failed: half a line is not taken for one.
+fn no_line() -> Line {
+    Line {
+        length: 0,
+        last: true,
+        none: true,
+        failed: true,
     }
 }
 
@@ -87,6 +102,9 @@ fn read_line(input: &mut impl Read, told: &impl Eprint, line: &mut [u8]) -> Line
         }
         if b == END {
             return line_of(n, true);
+        }
+        if b == FAILED {
+            return no_line();
         }
         n = keep(line, n, b);
         turns -= 1;
@@ -103,10 +121,10 @@ fn write_answer(rt: &impl Print, answer: &[u8]) -> io::Result<()> {
     rt.write_all(b"\n")
 }
 
-// Whether the answer could be written; where not, it is told.
+// Whether the line was read and its answer could be written; where not, it is told.
 fn write(rt: &(impl Print + Eprint), out: &[u8], end: usize, got: Line) -> bool {
     if got.none {
-        return true;
+        return !got.failed;
     }
     match write_answer(rt, first_bytes(out, end)) {
         Ok(()) => true,
@@ -130,7 +148,7 @@ fn left(turns: u64, got: Line, written: bool) -> u64
     if turns == 0 { 0 } else { turns - 1 }
 }
 
-// Lines to the input's end.
+// Lines to the input's end. Whether all of them were read and answered.
 fn answer_all(
     input: &mut impl Read,
     rt: &(impl Print + Eprint),
@@ -140,7 +158,7 @@ fn answer_all(
     lead: &mut [Letter],
     cycle: &mut [Letter],
     out: &mut [u8],
-) {
+) -> bool {
     let mut k = Kept {
         psl: 0,
         ltl: 0,
@@ -149,22 +167,25 @@ fn answer_all(
         room: TABLE_ROOM,
         end: 0,
     };
+    let mut written = true;
     let mut turns = u64::MAX;
     while turns > 0 {
         let got = read_line(input, rt, line);
         k = answer(line, got.length, psl, ltl, lead, cycle, out, k);
-        turns = left(turns, got, write(rt, out, k.end, got));
+        written = write(rt, out, k.end, got);
+        turns = left(turns, got, written);
     }
+    written
 }
 
-fn main(rt: HostRuntime) {
+fn main(rt: HostRuntime) -> ExitCode {
     let mut line = [0u8; LINE_ROOM];
     let mut psl = [0u16; TABLE_ROOM];
     let mut ltl = [0u16; TABLE_ROOM];
     let mut lead = [0 as Letter; LETTER_ROOM];
     let mut cycle = [0 as Letter; LETTER_ROOM];
     let mut out = [0u8; OUT_ROOM];
-    answer_all(
+    let works = answer_all(
         &mut rt.stdin(),
         &rt,
         &mut line,
@@ -174,4 +195,9 @@ fn main(rt: HostRuntime) {
         &mut cycle,
         &mut out,
     );
+    if works {
+        ExitCode::SUCCESS
+    } else {
+        ExitCode::FAILURE
+    }
 }
