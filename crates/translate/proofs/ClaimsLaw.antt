@@ -18,7 +18,7 @@ use Rattle.translate.proofs.DeliversLaw.{size-most, was_accepted}
 one_answer : (t l : List ℕ) (r r' : Translation) (m m' : List ℕ) → Delivers t l r m → Delivers t l r' m' → (r ≡ r') × (m ≡ m')
 one_answer t l r r' m m' d e = (d.answers ∙ sym e.answers, d.leaves ∙ sym e.leaves)
 
--- The largest size for its nodes: next over next, the kind that added_by most.
+-- The largest size for its nodes: next over next, the kind that adds most.
 nexts : ℕ → Formula
 nexts zero = weak btrue
 nexts (suc n) = next (nexts n)
