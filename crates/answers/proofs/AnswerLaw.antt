@@ -2,7 +2,7 @@
 use mathlib.Core.Path.{◌≡◌, refl, ap, sym, subst, ◌∙◌}
 use mathlib.Core.Option.{Option, none, some}
 use mathlib.Core.List.{List}
-use Prim.Native.Nat.{ℕ, suc, ◌+◌, ◌*◌, ◌-◌, ◌≤◌}
+use Prim.Native.Nat.{ℕ, suc, ◌+◌, ◌*◌, ◌≤◌}
 use native.Mathlib.Omega.{arith}
 use borrow.Author.Tests.{le-leb, leb-true}
 use lib.Dec.{leb}
@@ -12,7 +12,6 @@ use Rattle.logic.specs.Trace.{size}
 use Rattle.trace.specs.declared.Refusal.{Refusal}
 use Rattle.trace.specs.Refusal.{refused, unless}
 use Rattle.trace.specs.declared.Verdict.{Verdict}
-use Rattle.trace.specs.declared.Verdict.TheVariants as Verdict
 use Rattle.trace.specs.Verdict.{Judges}
 use Rattle.table.specs.Node.{numbers_of}
 use Rattle.table.proofs.NodeLaw.{length-numbers}
@@ -27,7 +26,6 @@ use Rattle.ltl.specs.Check.{ltl_rules, ltl_refusal}
 use Rattle.translate.specs.Emitted.{emitted, emitted_size}
 use Rattle.translate.specs.Answer.{translate_refusal, answer, Delivers}
 use Rattle.translate.specs.declared.Translation.{Translation}
-use Rattle.translate.specs.declared.Translation.TheVariants as Translation
 use Rattle.translate.proofs.DeliversLaw.{size-most}
 use Rattle.translate.proofs.EmittedLaw.{emitted-accepted}
 use Rattle.psl_verdict.specs.Verdict.{psl_verdict_refusal, PslJudges}
@@ -52,7 +50,6 @@ use Rattle.answers.specs.Answer.{VerdictOn, LaterAnswer, later_text}
 use Rattle.answers.specs.Inner.{TablesOf, Accepted, FirstAnswer}
 use Rattle.answers.specs.declared.First.TheVariants as First
 use Rattle.answers.specs.declared.Later.{Later}
-use Rattle.answers.specs.declared.Later.TheVariants as Later
 
 -- ── The tables of a formula within the limits ──
 

@@ -13,7 +13,6 @@ use Rattle.logic.specs.Meaning.{HoldsOn}
 use Rattle.logic.specs.LtlMeaning.{LtlHoldsOn}
 use Rattle.trace.specs.declared.Refusal.{Refusal}
 use Rattle.trace.specs.declared.Verdict.{Verdict}
-use Rattle.trace.specs.declared.Verdict.TheVariants as Verdict
 use Rattle.trace.specs.Refusal.{or_else}
 use Rattle.trace.specs.Verdict.{long_refusal, Judges}
 use Rattle.trace.proofs.JudgesLaw.{one_verdict}
@@ -40,7 +39,6 @@ use Rattle.answers.specs.Answer.{VerdictOn, Judged, LaterAnswer, later_text}
 use Rattle.answers.specs.Input.{input_lines}
 use Rattle.answers.specs.Whole.{PrintsTraces, Prints}
 use Rattle.answers.specs.declared.Later.{Later}
-use Rattle.answers.specs.declared.Later.TheVariants as Later
 
 -- ── Verdicts ──
 

@@ -21,9 +21,7 @@ use Rattle.answers.specs.Input.{ended_lines}
 use Rattle.answers.specs.Whole.{PrintsTraces, Prints, Runs}
 use Rattle.answers.specs.Inner.{kept_bytes, FirstAnswer}
 use Rattle.answers.specs.declared.First.{First}
-use Rattle.answers.specs.declared.First.TheVariants as First
 use Rattle.answers.specs.declared.Later.{Later}
-use Rattle.answers.specs.declared.Later.TheVariants as Later
 use Rattle.answers.proofs.CutLaw.{first_line_stays}
 
 -- ── The gathered bytes ──

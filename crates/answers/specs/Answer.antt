@@ -8,13 +8,11 @@ use Rattle.logic.specs.LtlMeaning.{LtlHoldsOn}
 use Rattle.ltl.specs.Table.{tree_of}
 use Rattle.translate.specs.Emitted.{emitted}
 use Rattle.trace.specs.declared.Verdict.{Verdict}
-use Rattle.trace.specs.declared.Verdict.TheVariants as Verdict
 use Rattle.text.specs.Reading.{Takes, Refuses}
 use Rattle.trace_lines.specs.Spelling.{TraceLists, line_of_trace}
 use Rattle.trace_lines.specs.TraceAnswer.{trace_limits}
 use Rattle.printing.specs.Printed.{refused_text, trace_text}
 use Rattle.answers.specs.declared.Later.{Later}
-use Rattle.answers.specs.declared.Later.TheVariants as Later
 
 -- The verdict on a claim: yes where it is so, no where it is not.
 abbrev pub VerdictOn : Type 0 → Verdict → Type 0

@@ -12,7 +12,6 @@ use Rattle.formula_lines.specs.Spelling.{formula_line}
 use Rattle.psl.specs.Closing.{closing_nodes}
 use Rattle.formula_lines.specs.FormulaAnswer.{formula_limits}
 use Rattle.answers.specs.declared.First.{First}
-use Rattle.answers.specs.declared.First.TheVariants as First
 
 -- The bytes of a line that are kept: one more than it may have, so that a longer one is seen to be.
 abbrev pub kept_bytes : ℕ

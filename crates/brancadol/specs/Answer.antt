@@ -1,7 +1,6 @@
 -- What the exported functions answer and leave.
 use Rattle.std.specs.Prelude.{◌≡◌, List, ℕ}
 use Rattle.trace.specs.declared.Found.{Found}
-use Rattle.trace.specs.declared.Found.TheVariants as Found
 use Rattle.trace.specs.declared.Verdict.{Verdict}
 use Rattle.psl_verdict.specs.Verdict.{PslJudges}
 use Rattle.ltl_verdict.specs.Verdict.{LtlJudges}

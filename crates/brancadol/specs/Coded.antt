@@ -2,19 +2,12 @@
 use Rattle.std.specs.Prelude.{ℕ, ◌+◌, ◌*◌, ◌%◌}
 use Rattle.trace.specs.declared.Refusal.{Refusal}
 use Rattle.trace.specs.declared.Found.{Found}
-use Rattle.trace.specs.declared.Found.TheVariants as Found
 use Rattle.table.specs.declared.Checked.{Checked}
-use Rattle.table.specs.declared.Checked.TheVariants as Checked
 use Rattle.translate.specs.declared.Translation.{Translation}
-use Rattle.translate.specs.declared.Translation.TheVariants as Translation
 use Rattle.trace.specs.declared.Verdict.{Verdict}
-use Rattle.trace.specs.declared.Verdict.TheVariants as Verdict
 use Rattle.formula_lines.specs.declared.FormulaLine.{FormulaLine}
-use Rattle.formula_lines.specs.declared.FormulaLine.TheVariants as FormulaLine
 use Rattle.trace_lines.specs.declared.TraceLine.{TraceLine}
-use Rattle.trace_lines.specs.declared.TraceLine.TheVariants as TraceLine
 use Rattle.node_lines.specs.declared.NodeLine.{NodeLine}
-use Rattle.node_lines.specs.declared.NodeLine.TheVariants as NodeLine
 
 -- The value has 56 bits: no count reaches 2^56, and no length of a list in memory.
 abbrev pub code : ℕ → ℕ → ℕ

@@ -1,19 +1,12 @@
 -- Answers as one number: a refusal's number, which is below 256, or 256 and the value. Counts and lengths are below 65,536.
 use Rattle.std.specs.Prelude.{ℕ, ◌+◌, ◌*◌, ◌%◌}
 use Rattle.trace.specs.declared.Found.{Found}
-use Rattle.trace.specs.declared.Found.TheVariants as Found
 use Rattle.table.specs.declared.Checked.{Checked}
-use Rattle.table.specs.declared.Checked.TheVariants as Checked
 use Rattle.translate.specs.declared.Translation.{Translation}
-use Rattle.translate.specs.declared.Translation.TheVariants as Translation
 use Rattle.trace.specs.declared.Verdict.{Verdict}
-use Rattle.trace.specs.declared.Verdict.TheVariants as Verdict
 use Rattle.formula_lines.specs.declared.FormulaLine.{FormulaLine}
-use Rattle.formula_lines.specs.declared.FormulaLine.TheVariants as FormulaLine
 use Rattle.trace_lines.specs.declared.TraceLine.{TraceLine}
-use Rattle.trace_lines.specs.declared.TraceLine.TheVariants as TraceLine
 use Rattle.node_lines.specs.declared.NodeLine.{NodeLine}
-use Rattle.node_lines.specs.declared.NodeLine.TheVariants as NodeLine
 
 abbrev pub found_code : Found → ℕ
 found_code (Found.Letter x) = 256 + x

@@ -13,7 +13,6 @@ use Rattle.printing.specs.Printed.{refused_text, table_text}
 use Rattle.printing.specs.Limits.{most_later, most_first}
 use Rattle.answers.specs.Inner.{Accepted, FirstAnswer}
 use Rattle.answers.specs.declared.First.{First}
-use Rattle.answers.specs.declared.First.TheVariants as First
 use Rattle.answers.proofs.AnswerLaw.{tables_accepted}
 use Rattle.state.specs.declared.State.{State}
 use Rattle.line_one.specs.Inner.{TableStored, Remembers, FirstDone}

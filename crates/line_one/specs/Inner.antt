@@ -7,7 +7,6 @@ use Rattle.printing.specs.Printed.{refused_text, table_text}
 use Rattle.printing.specs.Limits.{most_first}
 use Rattle.answers.specs.Inner.{FirstAnswer}
 use Rattle.answers.specs.declared.First.{First}
-use Rattle.answers.specs.declared.First.TheVariants as First
 use Rattle.state.specs.declared.State.{State}
 
 -- The LTL table that line 1 left is within the list, and has no more nodes than a table may have.

@@ -21,7 +21,6 @@ use Rattle.answers.specs.Inner.{kept_bytes, FirstAnswer}
 use Rattle.line_one.specs.Inner.{first_text, Remembers, FirstDone}
 use Rattle.run.specs.Inner.{PrintedSoFar, Going, GoingOrOver, LaterDone, Keeps}
 use Rattle.answers.specs.declared.First.{First}
-use Rattle.answers.specs.declared.First.TheVariants as First
 use Rattle.answers.proofs.CutLaw.{ended_end, open_end, ended-byte, open_byte, last-ends, only_line, no_last, some-ended, all_ended}
 use Rattle.answers.proofs.WholeLaw.{printed, first-kept, later_kept, refused-runs, traces-more}
 use Rattle.state.specs.declared.State.{State}

@@ -2,7 +2,7 @@
 use mathlib.Core.Path.{◌≡◌, refl, ap, sym, subst, ◌∙◌}
 use mathlib.Core.Bool.{Bool, true, false}
 use mathlib.Core.List.{List, [], ◌∷◌, ◌++◌, append_assoc, append-nil}
-use Prim.Native.Nat.{ℕ, ◌+◌, ◌*◌, ◌-◌, ◌<◌, ◌≤◌}
+use Prim.Native.Nat.{ℕ, ◌+◌, ◌*◌, ◌<◌, ◌≤◌}
 use native.Mathlib.Omega.{arith}
 use native.Mathlib.Numerals.{add-one}
 use borrow.Author.Tests.{ltb-true, ltb-false}
@@ -22,7 +22,6 @@ use Rattle.line_one.specs.Inner.{FirstDone}
 use Rattle.line_one.proofs.FirstLaw.{first-stored}
 use Rattle.run.specs.Inner.{Going, GoingOrOver, BothJudged, LaterDone, LineDone, Keeps, Fed, Finished, Ends, Advanced, AdvancesOrStops, Turns, no_turn, one_turn}
 use Rattle.answers.specs.declared.Later.{Later}
-use Rattle.answers.specs.declared.Later.TheVariants as Later
 use Rattle.state.specs.declared.State.{State}
 use Rattle.state.proofs.StateLaw.{within_as, never}
 use Rattle.answers.proofs.AnswerLaw.{room, later_judged}

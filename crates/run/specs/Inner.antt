@@ -16,7 +16,6 @@ use Rattle.answers.specs.Input.{ended_lines, open_line}
 use Rattle.answers.specs.Whole.{PrintsTraces, Runs}
 use Rattle.answers.specs.Inner.{kept_bytes, TablesOf}
 use Rattle.answers.specs.declared.Later.{Later}
-use Rattle.answers.specs.declared.Later.TheVariants as Later
 use Rattle.state.specs.Inner.{Within, Gathered, Ready, stopped, start}
 use Rattle.state.specs.declared.State.{State}
 

@@ -9,7 +9,6 @@ use lib.ListN.{length, take}
 use Rattle.trace.specs.declared.Refusal.{Refusal}
 use Rattle.table.specs.Answer.{checked}
 use Rattle.table.specs.declared.Checked.{Checked}
-use Rattle.table.specs.declared.Checked.TheVariants as Checked
 use Rattle.table.proofs.CheckLaw.{some-none, was_refused}
 use Rattle.answers.specs.Inner.{Accepted}
 use Rattle.state.specs.Inner.{most_block, most_lines, Within, Gathered, Ready, ListsFit, CountsFit, Tested, idle}

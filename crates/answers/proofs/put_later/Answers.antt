@@ -1,5 +1,4 @@
 -- The text of either answer.
-use Rattle.std.proofs.Common.{rules}
 use Rattle.answers.proofs.AnswerLaw.{refused-written, judged-written}
 use Rattle.answers.proofs.put_later.Goals as goal
 

@@ -1,5 +1,4 @@
 -- `brancadol::brancadol_check_ltl` meets its contract: the check's answer as a number.
-use Rattle.std.proofs.Common.{rules}
 use mathlib.Core.Path.{ap, ◌∙◌}
 use Rattle.brancadol.specs.Coded.{checked_code}
 use Rattle.brancadol.proofs.brancadol_check_ltl.Goals as goal

@@ -1,5 +1,4 @@
 -- `brancadol::brancadol_letter_at` meets its contract: the code of the answer, and the letter in the lent place.
-use Rattle.std.proofs.Common.{rules}
 use mathlib.Core.Path.{ap, ◌∙◌}
 use Rattle.trace.specs.declared.Found.{Found}
 use Rattle.brancadol.specs.Coded.{found_code}

@@ -1,5 +1,4 @@
 -- `brancadol::brancadol_write_node` meets its contract: the writer's answer as a number, and the same bytes.
-use Rattle.std.proofs.Common.{rules}
 use mathlib.Core.Path.{ap, ◌∙◌}
 use Rattle.node_lines.specs.declared.NodeLine.{NodeLine}
 use Rattle.table.specs.Node.{node}

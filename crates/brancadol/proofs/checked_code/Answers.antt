@@ -1,5 +1,4 @@
 -- `brancadol::checked_code` meets its contract, case by case.
-use Rattle.std.proofs.Common.{rules}
 use mathlib.Core.Path.{sym, ap, ◌∙◌}
 use Rattle.brancadol.specs.Coded.{checked_code}
 use Rattle.brancadol.proofs.checked_code.Goals as goal

@@ -1,10 +1,8 @@
 -- The loop keeps: the first i letters are copied.
 use Rattle.std.proofs.Common.{rules}
 use native.Mathlib.Omega.{arith}
-use mathlib.Core.Path.{◌≡◌, refl}
-use Prim.Native.Nat.{◌-◌, ◌≤◌}
-use lib.ListN.{length}
-use Rattle.brancadol.proofs.CopyLaw.{Copied, copied_none, copied_more, copied_all}
+use mathlib.Core.Path.{refl}
+use Rattle.brancadol.proofs.CopyLaw.{copied_none, copied_more, copied_all}
 use Rattle.brancadol.proofs.copy.Goals as goal
 
 pub loop-i-init : goal.loop-i-init

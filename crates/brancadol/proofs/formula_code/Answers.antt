@@ -1,5 +1,4 @@
 -- `brancadol::formula_code` meets its contract, case by case.
-use Rattle.std.proofs.Common.{rules}
 use mathlib.Core.Path.{sym, ap, ◌∙◌}
 use Rattle.brancadol.specs.Coded.{formula_code}
 use Rattle.brancadol.proofs.formula_code.Goals as goal

@@ -1,5 +1,4 @@
 -- `brancadol::node_code` meets its contract, case by case.
-use Rattle.std.proofs.Common.{rules}
 use mathlib.Core.Path.{sym, ap, ◌∙◌}
 use Rattle.brancadol.specs.Coded.{node_code}
 use Rattle.brancadol.proofs.node_code.Goals as goal

@@ -1,5 +1,4 @@
 -- `brancadol::put_letter` meets its contract, case by case: a success writes the letter.
-use Rattle.std.proofs.Common.{rules}
 use mathlib.Core.Path.{sym, ap, ◌∙◌}
 use Rattle.trace.specs.declared.Found.{Found}
 use Rattle.brancadol.specs.Coded.{found_code}

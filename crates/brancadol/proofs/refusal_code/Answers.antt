@@ -1,5 +1,4 @@
 -- `brancadol::refusal_code` meets its contract: every refusal's code is this one.
-use Rattle.std.proofs.Common.{rules}
 use Rattle.brancadol.proofs.refusal_code.Goals as goal
 
 pub returns : goal.returns

@@ -1,5 +1,4 @@
 -- `brancadol::trace_code` meets its contract, case by case.
-use Rattle.std.proofs.Common.{rules}
 use mathlib.Core.Path.{sym, ap, ◌∙◌}
 use Rattle.brancadol.specs.Coded.{trace_code}
 use Rattle.brancadol.proofs.trace_code.Goals as goal

@@ -1,5 +1,4 @@
 -- `brancadol::translation_code` meets its contract, case by case.
-use Rattle.std.proofs.Common.{rules}
 use mathlib.Core.Path.{sym, ap, ◌∙◌}
 use Rattle.brancadol.specs.Coded.{translation_code}
 use Rattle.brancadol.proofs.translation_code.Goals as goal

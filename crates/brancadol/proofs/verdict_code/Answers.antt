@@ -1,5 +1,4 @@
 -- `brancadol::verdict_code` meets its contract, case by case.
-use Rattle.std.proofs.Common.{rules}
 use mathlib.Core.Path.{sym, ap, ◌∙◌}
 use Rattle.brancadol.specs.Coded.{verdict_code}
 use Rattle.brancadol.proofs.verdict_code.Goals as goal

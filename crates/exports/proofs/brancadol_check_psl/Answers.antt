@@ -1,5 +1,4 @@
 -- `exports::brancadol_check_psl` meets its contract: the check's answer as a number.
-use Rattle.std.proofs.Common.{rules}
 use mathlib.Core.Path.{ap, ◌∙◌}
 use Rattle.exports.specs.Coded.{checked_code}
 use Rattle.exports.proofs.brancadol_check_psl.Goals as goal

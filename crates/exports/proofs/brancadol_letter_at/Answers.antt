@@ -1,5 +1,4 @@
 -- `exports::brancadol_letter_at` meets its contract: the letter as a number.
-use Rattle.std.proofs.Common.{rules}
 use mathlib.Core.Path.{ap, ◌∙◌}
 use Rattle.exports.specs.Coded.{found_code}
 use Rattle.exports.proofs.brancadol_letter_at.Goals as goal

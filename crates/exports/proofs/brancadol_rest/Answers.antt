@@ -1,5 +1,4 @@
 -- `exports::brancadol_rest` meets its contract: the length of the part, and its letters.
-use Rattle.std.proofs.Common.{rules}
 use mathlib.Core.Path.{ap, ◌∙◌}
 use mathlib.Core.List.{List}
 use Prim.Native.Nat.{ℕ, ◌+◌}

@@ -1,9 +1,8 @@
 -- The loop keeps: the first i letters are copied.
-use native.Mathlib.Omega.{arith}
-use mathlib.Core.Path.{◌≡◌, refl}
+use mathlib.Core.Path.{◌≡◌}
 use Prim.Native.Nat.{◌-◌, ◌≤◌}
 use lib.ListN.{length}
-use Rattle.exports.proofs.CopyLaw.{Copied, copied_none, copied_more, copied_all}
+use Rattle.exports.proofs.CopyLaw.{Copied}
 use Rattle.exports.proofs.copy.Given as goal
 
 abbrev pub invariant-loop-i : goal.invariant-loop-i

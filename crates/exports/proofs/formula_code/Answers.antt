@@ -1,5 +1,4 @@
 -- `exports::formula_code` meets its contract, case by case.
-use Rattle.std.proofs.Common.{rules}
 use mathlib.Core.Path.{sym, ap}
 use Rattle.exports.specs.Coded.{formula_code}
 use Rattle.exports.proofs.formula_code.Goals as goal

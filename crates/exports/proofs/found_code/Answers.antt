@@ -1,5 +1,4 @@
 -- `exports::found_code` meets its contract, case by case.
-use Rattle.std.proofs.Common.{rules}
 use mathlib.Core.Path.{sym, ap}
 use Rattle.exports.specs.Coded.{found_code}
 use Rattle.exports.proofs.found_code.Goals as goal

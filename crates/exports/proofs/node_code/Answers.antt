@@ -1,5 +1,4 @@
 -- `exports::node_code` meets its contract, case by case.
-use Rattle.std.proofs.Common.{rules}
 use mathlib.Core.Path.{sym, ap}
 use Rattle.exports.specs.Coded.{node_code}
 use Rattle.exports.proofs.node_code.Goals as goal

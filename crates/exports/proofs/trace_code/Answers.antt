@@ -1,5 +1,4 @@
 -- `exports::trace_code` meets its contract, case by case.
-use Rattle.std.proofs.Common.{rules}
 use mathlib.Core.Path.{sym, ap}
 use Rattle.exports.specs.Coded.{trace_code}
 use Rattle.exports.proofs.trace_code.Goals as goal

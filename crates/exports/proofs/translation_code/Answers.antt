@@ -1,5 +1,4 @@
 -- `exports::translation_code` meets its contract, case by case.
-use Rattle.std.proofs.Common.{rules}
 use mathlib.Core.Path.{sym, ap}
 use Rattle.exports.specs.Coded.{translation_code}
 use Rattle.exports.proofs.translation_code.Goals as goal

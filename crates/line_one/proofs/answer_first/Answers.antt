@@ -1,10 +1,7 @@
 -- The text of either answer.
-use Rattle.std.proofs.Common.{rules}
-use mathlib.Core.Path.{sym}
 use native.Mathlib.Omega.{arith}
 use Prim.Native.Nat.{◌*◌}
 use lib.ListN.{length-take}
-use lib.Seq.{length-take-le}
 use Rattle.line_one.proofs.FirstLaw.{table-stored, first-refused, first_tables}
 use Rattle.line_one.proofs.answer_first.Goals as goal
 

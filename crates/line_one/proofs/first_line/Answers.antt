@@ -1,5 +1,4 @@
 -- The line read, then its table translated: with room for the largest neither lacks any.
-use Rattle.std.proofs.Common.{rules}
 use mathlib.Core.Path.{sym, subst}
 use native.Mathlib.Omega.{arith}
 use Prim.Native.Nat.{◌*◌}

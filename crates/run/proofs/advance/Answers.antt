@@ -1,6 +1,4 @@
 -- The tests, then the input's end or the bytes of a block.
-use Rattle.std.proofs.Common.{rules}
-use borrow.Author.Tests.{not-true, not-false}
 use Rattle.state.specs.Inner.{Ready}
 use Rattle.state.proofs.StateLaw.{finish-ready, feed-ready, passed, failed}
 use Rattle.run.proofs.StreamLaw.{taken, turned_away, advance_end, advance_on}

@@ -1,5 +1,4 @@
 -- The answer, then its text.
-use Rattle.std.proofs.Common.{rules}
 use Rattle.run.proofs.answer_later.Goals as goal
 
 pub returns : goal.returns

@@ -1,8 +1,6 @@
 -- Line 1, or a later one.
 use Rattle.std.proofs.Common.{rules}
-use mathlib.Core.Path.{sym}
 use native.Mathlib.Omega.{arith}
-use lib.Seq.{length-take-le}
 use Rattle.run.proofs.StreamLaw.{line_first, line_later}
 use Rattle.run.proofs.end_line.Goals as goal
 

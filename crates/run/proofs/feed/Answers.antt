@@ -1,11 +1,9 @@
 -- One byte after another.
-use Rattle.std.proofs.Common.{rules}
 use mathlib.Core.Path.{refl}
 use native.Mathlib.Omega.{arith}
 use borrow.Author.Tests.{not-true, not-false}
-use Prim.Native.Nat.{◌-◌}
-use lib.ListN.{length, get_or}
-use Rattle.run.proofs.StreamLaw.{Feeding, feeding_start, line_ready, feeding_byte, feeding_line, feeding_over, feeding_end}
+use lib.ListN.{get_or}
+use Rattle.run.proofs.StreamLaw.{feeding_start, line_ready, feeding_byte, feeding_line, feeding_over, feeding_end}
 use Rattle.run.proofs.feed.Goals as goal
 
 pub loop-i-init : goal.loop-i-init

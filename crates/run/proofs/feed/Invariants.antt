@@ -1,10 +1,7 @@
 -- One byte after another.
-use mathlib.Core.Path.{refl}
-use native.Mathlib.Omega.{arith}
-use borrow.Author.Tests.{not-true, not-false}
 use Prim.Native.Nat.{◌-◌}
-use lib.ListN.{length, get_or}
-use Rattle.run.proofs.StreamLaw.{Feeding, feeding_start, line_ready, feeding_byte, feeding_line, feeding_over, feeding_end}
+use lib.ListN.{length}
+use Rattle.run.proofs.StreamLaw.{Feeding}
 use Rattle.run.proofs.feed.Given as goal
 
 abbrev pub invariant-loop-i : goal.invariant-loop-i

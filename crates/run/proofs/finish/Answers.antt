@@ -1,5 +1,4 @@
 -- The open line is answered as if byte 10 ended it.
-use Rattle.std.proofs.Common.{rules}
 use native.Mathlib.Omega.{arith}
 use Rattle.run.proofs.StreamLaw.{nothing_open, line_open}
 use Rattle.run.proofs.finish.Goals as goal

@@ -1,5 +1,4 @@
 -- A byte is kept where there is room.
-use Rattle.std.proofs.Common.{rules}
 use mathlib.Core.Path.{refl}
 use native.Mathlib.Omega.{arith}
 use Rattle.run.proofs.keep.Goals as goal

@@ -1,13 +1,8 @@
 -- The trace read, then both verdicts on it.
-use Rattle.std.proofs.Common.{rules}
-use mathlib.Core.Path.{sym, subst}
-use Prim.Native.Nat.{◌≤◌}
-use lib.ListN.{length}
-use lib.Seq.{length-take-le}
+use mathlib.Core.Path.{subst}
 use Rattle.trace_lines.specs.TraceAnswer.{TraceAnswer}
 use Rattle.trace_lines.specs.declared.TraceLine.{TraceLine}
-use Rattle.trace_lines.specs.declared.TraceLine.TheVariants as TraceLine
-use Rattle.answers.proofs.AnswerLaw.{room, later_refused, letters-few}
+use Rattle.answers.proofs.AnswerLaw.{room, later_refused}
 use Rattle.run.proofs.StreamLaw.{later_both}
 use Rattle.run.proofs.later_line.Goals as goal
 use Rattle.run.proofs.later_line.Goals.{In-Letters}

@@ -1,5 +1,4 @@
 -- One check, then the other.
-use Rattle.std.proofs.Common.{rules}
 use Rattle.table.proofs.CheckLaw.{accepted}
 use Rattle.state.proofs.StateLaw.{not-accepted}
 use Rattle.state.proofs.both_accepted.Goals as goal

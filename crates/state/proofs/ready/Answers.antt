@@ -1,10 +1,6 @@
 -- The lengths, the counts, then the tables.
-use Rattle.std.proofs.Common.{rules}
-use mathlib.Core.Path.{sym}
 use native.Mathlib.Omega.{arith}
-use borrow.Author.Tests.{not-true, not-false}
 use lib.ListN.{length}
-use lib.Seq.{length-take-le}
 use Rattle.state.specs.Inner.{ListsFit, CountsFit}
 use Rattle.state.proofs.StateLaw.{passed, failed, fit_ready, ready_lists, ready-counts, tested-ready}
 use Rattle.state.proofs.ready.Goals as goal
