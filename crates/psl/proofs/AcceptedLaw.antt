@@ -55,6 +55,13 @@ module _ (t : List ℕ) (fine : psl_refusal t ≡ none) where
     as_formula_lem : (n : ℕ) → Fits psl_rules formula n i (is_boolean psl_rules t n) → Formula t i n
     as_formula_lem n f = (f.low, ltb-false (kind_at t n) 4 (sort_is false (is_boolean psl_rules t n) f.sort))
 
+    -- What a function over the nodes asks of an operand of node i.
+    pub boolean_asked : {j : ℕ} → Boolean t i j → (psl_refusal t ≡ none) × (j < count t) × (kind_at t j < 4)
+    boolean_asked b = (fine, omega (arith, b.0), b.1)
+
+    pub formula_asked : {j : ℕ} → Formula t i j → (psl_refusal t ≡ none) × (j < count t) × (4 ≤ kind_at t j)
+    formula_asked f = (fine, omega (arith, f.0), f.1)
+
     -- ── Booleans ──
 
     pub is_true : kind_at t i ≡ 0 → boolean_at t i ≡ btrue

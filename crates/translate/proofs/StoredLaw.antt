@@ -1,11 +1,14 @@
 -- A node stored behind those that are there.
 use mathlib.Core.Path.{◌≡◌, refl, sym, ap, subst, ◌∙◌}
 use mathlib.Core.List.{List, [], ◌∷◌}
-use Prim.Native.Nat.{ℕ, suc, ◌+◌, ◌*◌, ◌≤◌}
+use mathlib.Core.Option.{none}
+use Prim.Native.Nat.{ℕ, suc, ◌+◌, ◌*◌, ◌≤◌, ◌<◌}
 use native.Mathlib.Omega.{arith}
 use lib.ListN.{length, set}
 use lib.Seq.{sets}
-use Rattle.table.specs.Node.{Node, node, numbers_of, ◌▸◌, last}
+use Rattle.table.specs.Node.{Node, node, numbers_of, ◌▸◌, last, count, kind_at}
+use Rattle.psl.specs.Check.{psl_refusal}
+use Rattle.psl.proofs.AcceptedLaw.{Boolean, Formula, boolean_asked, formula_asked}
 use Rattle.table.proofs.NodeLaw.{length-numbers, length_more}
 use Rattle.table.proofs.StoreLaw.{sets-sets, numbers_more}
 use Rattle.ltl.specs.Table.{not_node, and_node, or_node}
@@ -15,6 +18,14 @@ use Rattle.translate.specs.Inner.Stored.{Stored, Room, Walks}
 -- Where there is room for what a node stores, there is room for a part of it.
 pub room_within : {w n v m : ℕ} {old now : List ℕ} → Room w n old → length now ≡ length old → m + v ≤ n + w → Room v m now
 room_within R l h = record { space = omega (arith, R.space); fits = omega (arith, R.fits) }
+
+-- What a walk asks of an operand of node i, a Boolean or a formula, with the room for it.
+module _ (t : List ℕ) (fine : psl_refusal t ≡ none) (i : ℕ) (inside : i < count t) {v m : ℕ} {now : List ℕ} (R : Room v m now) where
+  pub boolean_in : {j : ℕ} → Boolean t i j → (psl_refusal t ≡ none) × (j < count t) × (kind_at t j < 4) × Room v m now
+  boolean_in b = let a = boolean_asked t fine i inside b in (a.0, a.1, a.2, R)
+
+  pub formula_in : {j : ℕ} → Formula t i j → (psl_refusal t ≡ none) × (j < count t) × (4 ≤ kind_at t j) × Room v m now
+  formula_in f = let a = formula_asked t fine i inside f in (a.0, a.1, a.2, R)
 
 -- Three stores at the node behind node n, the last.
 pub walks-node : (k x y n : ℕ) {old now : List ℕ}

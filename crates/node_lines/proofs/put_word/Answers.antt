@@ -4,6 +4,7 @@ use Prim.Native.Nat.{ℕ}
 use Rattle.node_lines.specs.Spelling.{ltl_word}
 use Rattle.text.specs.Inner.Writer.{Wrote}
 use Rattle.node_lines.proofs.WriterLaw.{no_word, no_kind}
+use native.Mathlib.Omega.{arith}
 use Rattle.node_lines.proofs.put_word.Goals as goal
 
 pub returns-in-0 : goal.returns-in-0
@@ -42,6 +43,6 @@ returns-in-6 c = let x = c.args in
     subst (λ (k : ℕ). Wrote (ltl_word k) x.out.now c.put_text-in-6.new.out x.at c.put_text-in-6.result) (sym c.in-6.is) c.put_text-in-6.ensures
 
 pub returns-in_default : goal.returns-in_default
-returns-in_default c = let x = c.args in
-    let r = c.in_default.in_default-own.rest in
-    no_word x.kind (no_kind x.kind r.0.0.0.0.0.0.1 r.0.0.0.0.0.1 r.0.0.0.0.1 r.0.0.0.1 r.0.0.1 r.0.1 r.1)
+returns-in_default c =
+    no_word c.args.kind
+    (no_kind c.args.kind (λ e. omega arith) (λ e. omega arith) (λ e. omega arith) (λ e. omega arith) (λ e. omega arith) (λ e. omega arith) (λ e. omega arith))

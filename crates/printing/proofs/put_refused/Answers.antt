@@ -8,4 +8,4 @@ pub returns : goal.returns
 returns c = let x = c.args in
     let at-fits = c.ranges in
     let wrote = refused-wrote x.line x.x c.put_text-a.ensures c.put_number-b.ensures c.put_text-c.ensures c.put_number-d.ensures c.put_text.ensures in
-    (wrote, omega (arith, wrote_end wrote, refused-short x.line x.x at-fits.line.fits (omega (arith, c.struct_known-1.given))))
+    (wrote, omega (arith, wrote_end wrote, refused-short x.line x.x at-fits.line.fits (omega arith)))

@@ -23,5 +23,5 @@ returns c = let x = c.args in
     record {
       table = λ _. wrote;
       none = λ h. absurd (omega arith);
-      short = omega (arith, wrote_end wrote, table-short x.t.now (λ i. omega (arith, c.shared_slice_known-1.given i)) (omega arith));
+      short = omega (arith, wrote_end wrote, table-short x.t.now (λ i. omega (arith, c.type_inv.t i)) (omega arith));
     }

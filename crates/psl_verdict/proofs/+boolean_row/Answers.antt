@@ -1,20 +1,9 @@
 -- `psl_verdict::boolean_row` meets its contract, by the number of its node: each arm tells its Boolean.
 use native.Mathlib.Omega.{arith}
-use mathlib.Core.Path.{◌≡◌}
-use mathlib.Core.Option.{none}
-use mathlib.Core.List.{List}
-use Prim.Native.Nat.{ℕ, ◌<◌}
-use Rattle.table.specs.Node.{count, kind_at}
-use Rattle.psl.specs.Check.{psl_refusal}
-use Rattle.psl.proofs.AcceptedLaw.{Boolean, is_true, is-var, is-bnot, is-band}
+use Rattle.psl.proofs.AcceptedLaw.{boolean_asked, is_true, is-var, is-bnot, is-band}
 use Rattle.rows.proofs.RowLaw.{tells-true, tells-not, tells-and}
 use Rattle.psl_verdict.proofs.ArmLaw.{as_boolean_lem}
 use Rattle.psl_verdict.proofs.+boolean_row.Goals as goal
-
--- What a call for an operand asks.
-operand : (t : List ℕ) (i own : ℕ) {j : ℕ} → psl_refusal t ≡ none → i < count t → i ≡ own → Boolean t i j
-    → (j < own) × ((psl_refusal t ≡ none) × (j < count t) × (kind_at t j < 4))
-operand t i own fine l e b = (omega (arith, b.0), (fine, omega (arith, b.0), b.1))
 
 pub bounds-vars-left : goal.bounds-vars-left
 bounds-vars-left t c = omega (arith, (is-var c.args.t.now c.requires.0 c.args.i.0 c.requires.1 (omega arith)).0)
@@ -22,17 +11,20 @@ bounds-vars-left t c = omega (arith, (is-var c.args.t.now c.requires.0 c.args.i.
 pub boolean_row-requires : goal.boolean_row-requires
 boolean_row-requires t c =
     let P = c.requires in
-    operand c.args.t.now c.args.i.0 t P.0 P.1 c.decreases (is-bnot c.args.t.now P.0 c.args.i.0 P.1 (omega arith)).0
+    let o = (is-bnot c.args.t.now P.0 c.args.i.0 P.1 (omega arith)).0 in
+    (omega (arith, o.0), boolean_asked c.args.t.now P.0 c.args.i.0 P.1 o)
 
 pub boolean_row-requires-in_default : goal.boolean_row-requires-in_default
 boolean_row-requires-in_default t c =
     let P = c.requires in
-    operand c.args.t.now c.args.i.0 t P.0 P.1 c.decreases (is-band c.args.t.now P.0 c.args.i.0 P.1 (omega arith)).0
+    let o = (is-band c.args.t.now P.0 c.args.i.0 P.1 (omega arith)).0 in
+    (omega (arith, o.0), boolean_asked c.args.t.now P.0 c.args.i.0 P.1 o)
 
 pub boolean_row-requires-in_default-2 : goal.boolean_row-requires-in_default-2
 boolean_row-requires-in_default-2 t c =
     let P = c.requires in
-    operand c.args.t.now c.args.i.0 t P.0 P.1 c.decreases (is-band c.args.t.now P.0 c.args.i.0 P.1 (omega arith)).1
+    let o = (is-band c.args.t.now P.0 c.args.i.0 P.1 (omega arith)).1 in
+    (omega (arith, o.0), boolean_asked c.args.t.now P.0 c.args.i.0 P.1 o)
 
 -- What true, a signal, not and and tell.
 pub returns-in-0 : goal.returns-in-0

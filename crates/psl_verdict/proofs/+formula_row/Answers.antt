@@ -7,20 +7,11 @@ use Prim.Native.Nat.{ℕ, ◌≤◌, ◌<◌}
 use Rattle.table.specs.Node.{count, kind_at, left_at, right_at}
 use Rattle.psl.specs.Inner.Parts.{boolean_at, formula_at}
 use Rattle.psl.specs.Check.{psl_refusal}
-use Rattle.psl.proofs.AcceptedLaw.{Boolean, Formula, kind-known, is-not, is-and, is-next, is-until, is-abort}
+use Rattle.psl.proofs.AcceptedLaw.{boolean_asked, formula_asked, kind-known, is-not, is-and, is-next, is-until, is-abort}
 use Rattle.logic.specs.Translation.{tree_b, translated}
 use Rattle.rows.proofs.RowLaw.{tells-not, tells-and}
 use Rattle.psl_verdict.proofs.ArmLaw.{as_formula_lem, literal-node}
 use Rattle.psl_verdict.proofs.+formula_row.Goals as goal
-
--- What a call for an operand asks, a Boolean or a formula.
-boolean : (t : List ℕ) (i : ℕ) {j : ℕ} → psl_refusal t ≡ none → i < count t → Boolean t i j
-    → (psl_refusal t ≡ none) × (j < count t) × (kind_at t j < 4)
-boolean t i fine l b = (fine, omega (arith, b.0), b.1)
-
-formula : (t : List ℕ) (i own : ℕ) {j : ℕ} → psl_refusal t ≡ none → i < count t → i ≡ own → Formula t i j
-    → (j < own) × ((psl_refusal t ≡ none) × (j < count t) × (4 ≤ kind_at t j))
-formula t i own fine l e f = (omega (arith, f.0), (fine, omega (arith, f.0), f.1))
 
 -- In the last arm the kind is that of an abort.
 last_arm : (t : List ℕ) (i : ℕ) → psl_refusal t ≡ none → i < count t → 6 ≤ kind_at t i → (kind_at t i ≡ 6 → ⊥) → (kind_at t i ≡ 7 → ⊥)
@@ -31,7 +22,7 @@ last_arm t i fine l k n6 n7 n8 n9 = omega (arith, kind-known t fine i l)
 pub boolean_row-requires : goal.boolean_row-requires
 boolean_row-requires t c =
     let P = c.requires in
-    boolean c.args.t.now c.args.i.0 P.0 P.1 (literal-node c.args.t.now P.0 c.args.i.0 P.1 (omega arith) (omega arith)).operand
+    boolean_asked c.args.t.now P.0 c.args.i.0 P.1 (literal-node c.args.t.now P.0 c.args.i.0 P.1 (omega arith) (omega arith)).operand
 
 pub returns-then-kind-lt-NOT : goal.returns-then-kind-lt-NOT
 returns-then-kind-lt-NOT t c lead loop few p vs =
@@ -43,48 +34,55 @@ returns-then-kind-lt-NOT t c lead loop few p vs =
 pub formula_row-requires : goal.formula_row-requires
 formula_row-requires t c =
     let P = c.requires in
-    formula c.args.t.now c.args.i.0 t P.0 P.1 c.decreases (is-not c.args.t.now P.0 c.args.i.0 P.1 (omega arith)).0
+    let o = (is-not c.args.t.now P.0 c.args.i.0 P.1 (omega arith)).0 in
+    (omega (arith, o.0), formula_asked c.args.t.now P.0 c.args.i.0 P.1 o)
 
 -- and
 pub formula_row-requires-in-7 : goal.formula_row-requires-in-7
 formula_row-requires-in-7 t c =
     let P = c.requires in
-    formula c.args.t.now c.args.i.0 t P.0 P.1 c.decreases (is-and c.args.t.now P.0 c.args.i.0 P.1 (omega arith)).0
+    let o = (is-and c.args.t.now P.0 c.args.i.0 P.1 (omega arith)).0 in
+    (omega (arith, o.0), formula_asked c.args.t.now P.0 c.args.i.0 P.1 o)
 
 pub formula_row-requires-in-7-2 : goal.formula_row-requires-in-7-2
 formula_row-requires-in-7-2 t c =
     let P = c.requires in
-    formula c.args.t.now c.args.i.0 t P.0 P.1 c.decreases (is-and c.args.t.now P.0 c.args.i.0 P.1 (omega arith)).1
+    let o = (is-and c.args.t.now P.0 c.args.i.0 P.1 (omega arith)).1 in
+    (omega (arith, o.0), formula_asked c.args.t.now P.0 c.args.i.0 P.1 o)
 
 -- next
 pub formula_row-x-requires : goal.formula_row-x-requires
 formula_row-x-requires t c =
     let P = c.requires in
-    formula c.args.t.now c.args.i.0 t P.0 P.1 c.decreases (is-next c.args.t.now P.0 c.args.i.0 P.1 (omega arith)).0
+    let o = (is-next c.args.t.now P.0 c.args.i.0 P.1 (omega arith)).0 in
+    (omega (arith, o.0), formula_asked c.args.t.now P.0 c.args.i.0 P.1 o)
 
 -- until
 pub formula_row-x-requires-in-9 : goal.formula_row-x-requires-in-9
 formula_row-x-requires-in-9 t c =
     let P = c.requires in
-    formula c.args.t.now c.args.i.0 t P.0 P.1 c.decreases (is-until c.args.t.now P.0 c.args.i.0 P.1 (omega arith)).0
+    let o = (is-until c.args.t.now P.0 c.args.i.0 P.1 (omega arith)).0 in
+    (omega (arith, o.0), formula_asked c.args.t.now P.0 c.args.i.0 P.1 o)
 
 pub formula_row-y-requires : goal.formula_row-y-requires
 formula_row-y-requires t c =
     let P = c.requires in
-    formula c.args.t.now c.args.i.0 t P.0 P.1 c.decreases (is-until c.args.t.now P.0 c.args.i.0 P.1 (omega arith)).1
+    let o = (is-until c.args.t.now P.0 c.args.i.0 P.1 (omega arith)).1 in
+    (omega (arith, o.0), formula_asked c.args.t.now P.0 c.args.i.0 P.1 o)
 
 -- abort
 pub boolean_row-b-requires : goal.boolean_row-b-requires
 boolean_row-b-requires t c =
     let P = c.requires in
     let k = last_arm c.args.t.now c.args.i.0 P.0 P.1 (omega arith) (λ e. omega arith) (λ e. omega arith) (λ e. omega arith) (λ e. omega arith) in
-    boolean c.args.t.now c.args.i.0 P.0 P.1 (is-abort c.args.t.now P.0 c.args.i.0 P.1 k).1
+    boolean_asked c.args.t.now P.0 c.args.i.0 P.1 (is-abort c.args.t.now P.0 c.args.i.0 P.1 k).1
 
 pub formula_row-requires-in_default : goal.formula_row-requires-in_default
 formula_row-requires-in_default t c =
     let P = c.requires in
     let k = last_arm c.args.t.now c.args.i.0 P.0 P.1 (omega arith) (λ e. omega arith) (λ e. omega arith) (λ e. omega arith) (λ e. omega arith) in
-    formula c.args.t.now c.args.i.0 t P.0 P.1 c.decreases (is-abort c.args.t.now P.0 c.args.i.0 P.1 k).0
+    let o = (is-abort c.args.t.now P.0 c.args.i.0 P.1 k).0 in
+    (omega (arith, o.0), formula_asked c.args.t.now P.0 c.args.i.0 P.1 o)
 
 -- What not, and, next, until and abort tell.
 pub returns-in-6 : goal.returns-in-6

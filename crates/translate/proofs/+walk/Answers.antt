@@ -1,23 +1,10 @@
 -- `translate::walk` meets its contract, by the number of its node: each arm stores what the walk of its formula appends.
-use Rattle.std.proofs.Common.{◌≡◌, ℕ, ◌<◌, ◌≤◌, List, arith}
-use Rattle.std.proofs.Math.Option.{none}
-use Rattle.table.specs.Node.{count, kind_at}
-use Rattle.psl.specs.Check.{psl_refusal}
-use Rattle.psl.proofs.AcceptedLaw.{Boolean, Formula, is-not, is-next, is-abort}
-use Rattle.translate.specs.Inner.Stored.{Room}
-use Rattle.translate.proofs.StoredLaw.{room_within}
+use Rattle.std.proofs.Common.{ℕ, arith}
+use Rattle.psl.proofs.AcceptedLaw.{is-not, is-next, is-abort}
+use Rattle.translate.proofs.StoredLaw.{room_within, boolean_in, formula_in}
 use Rattle.translate.proofs.ArmLaw.{weight_not, weight_next, weight_abort, literal-node, left-formula, Joined, joined_node, arm_not, arm_next, arm_abort}
 use Rattle.translate.proofs.+walk.Goals as goal
 use Rattle.translate.proofs.+walk.Goals.{Else-kind-eq-NEXT}
-
--- What a call for an operand asks, a Boolean or a formula.
-boolean : (t : List ℕ) (i j : ℕ) {v m : ℕ} {now : List ℕ} → psl_refusal t ≡ none → i < count t → Boolean t i j → Room v m now
-    → (psl_refusal t ≡ none) × (j < count t) × (kind_at t j < 4) × Room v m now
-boolean t i j e h b r = (e, omega (arith, b.0), b.1, r)
-
-formula : (t : List ℕ) (i own j : ℕ) {v m : ℕ} {now : List ℕ} → i ≡ own → psl_refusal t ≡ none → i < count t → Formula t i j → Room v m now
-    → (j < own) × ((psl_refusal t ≡ none) × (j < count t) × (4 ≤ kind_at t j) × Room v m now)
-formula t i own j d e h f r = (omega (arith, f.0), (e, omega (arith, f.0), f.1, r))
 
 -- In the last arm, below the test for next, the node is an and or an until.
 joined : (t : ℕ) (k : Else-kind-eq-NEXT t) → Joined k.args.t.now k.args.i.0
@@ -30,7 +17,7 @@ pub literal-requires : goal.literal-requires
 literal-requires t c =
     let P = c.requires in
     let l = literal-node c.args.t.now P.0 c.args.i.0 P.1 (omega arith) (omega arith) in
-    boolean _ _ _ P.0 P.1 l.operand (room_within P.3 (omega arith) (omega (arith, l.weight)))
+    boolean_in c.args.t.now P.0 c.args.i.0 P.1 (room_within P.3 (omega arith) (omega (arith, l.weight))) l.operand
 
 pub returns-then-kind-lt-NOT : goal.returns-then-kind-lt-NOT
 returns-then-kind-lt-NOT t c =
@@ -42,7 +29,7 @@ pub walk-x-requires : goal.walk-x-requires
 walk-x-requires t c =
     let P = c.requires in
     let f = is-not c.args.t.now P.0 c.args.i.0 P.1 (omega arith) in
-    formula _ _ _ _ (omega arith) P.0 P.1 f.0 (room_within P.3 (omega arith) (omega (arith, weight_not f.1)))
+    (omega (arith, f.0), formula_in c.args.t.now P.0 c.args.i.0 P.1 (room_within P.3 (omega arith) (omega (arith, weight_not f.1))) f.0)
 
 pub append-requires : goal.append-requires
 append-requires t c =
@@ -61,13 +48,13 @@ pub literal-x-requires : goal.literal-x-requires
 literal-x-requires t c =
     let P = c.requires in
     let f = is-abort c.args.t.now P.0 c.args.i.0 P.1 (omega arith) in
-    boolean _ _ _ P.0 P.1 f.1 (room_within P.3 (omega arith) (omega (arith, weight_abort f.2)))
+    boolean_in c.args.t.now P.0 c.args.i.0 P.1 (room_within P.3 (omega arith) (omega (arith, weight_abort f.2))) f.1
 
 pub walk-requires : goal.walk-requires
 walk-requires t c =
     let P = c.requires in
     let f = is-abort c.args.t.now P.0 c.args.i.0 P.1 (omega arith) in
-    formula _ _ _ _ (omega arith) P.0 P.1 f.0 (room_within P.3 (omega arith) (omega (arith, weight_abort f.2, c.literal-x.ensures.last)))
+    (omega (arith, f.0), formula_in c.args.t.now P.0 c.args.i.0 P.1 (room_within P.3 (omega arith) (omega (arith, weight_abort f.2, c.literal-x.ensures.last))) f.0)
 
 pub returns-in-10 : goal.returns-in-10
 returns-in-10 t c =
@@ -80,7 +67,7 @@ pub walk-x-requires-in_default : goal.walk-x-requires-in_default
 walk-x-requires-in_default t c =
     let P = c.requires in
     let f = left-formula c.args.t.now P.0 c.args.i.0 P.1 (omega arith) (λ e. omega arith) (λ e. omega arith) in
-    formula _ _ _ _ (omega arith) P.0 P.1 f.0 (room_within P.3 (omega arith) (omega (arith, f.1)))
+    (omega (arith, f.0), formula_in c.args.t.now P.0 c.args.i.0 P.1 (room_within P.3 (omega arith) (omega (arith, f.1))) f.0)
 
 -- next
 pub next_gate-requires : goal.next_gate-requires
@@ -100,7 +87,7 @@ pub walk-y-requires : goal.walk-y-requires
 walk-y-requires t c =
     let P = c.requires in
     let j = joined t (goal.at.walk-y-requires t c).Else-kind-eq-NEXT in
-    formula _ _ _ _ (omega arith) P.0 P.1 j.right (room_within P.3 (omega arith) (omega (arith, j.weight, c.walk-x-in_default.ensures.last)))
+    (omega (arith, j.right), formula_in c.args.t.now P.0 c.args.i.0 P.1 (room_within P.3 (omega arith) (omega (arith, j.weight, c.walk-x-in_default.ensures.last))) j.right)
 
 pub append-requires-in_default : goal.append-requires-in_default
 append-requires-in_default t c =

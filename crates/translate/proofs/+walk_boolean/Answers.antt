@@ -1,18 +1,9 @@
 -- `translate::walk_boolean` meets its contract, by the number of its node: each arm stores what the walk of its Boolean appends.
-use Rattle.std.proofs.Common.{◌≡◌, ℕ, ◌<◌, List, arith}
-use Rattle.std.proofs.Math.Option.{none}
-use Rattle.table.specs.Node.{count, kind_at}
-use Rattle.psl.specs.Check.{psl_refusal}
-use Rattle.psl.proofs.AcceptedLaw.{Boolean, is-bnot, is-band}
-use Rattle.translate.specs.Inner.Stored.{Room}
-use Rattle.translate.proofs.StoredLaw.{room_within}
+use Rattle.std.proofs.Common.{arith}
+use Rattle.psl.proofs.AcceptedLaw.{is-bnot, is-band}
+use Rattle.translate.proofs.StoredLaw.{room_within, boolean_in}
 use Rattle.translate.proofs.ArmLaw.{weight_bnot, weight_band, leaf_node, left-boolean, arm_bnot, arm_band}
 use Rattle.translate.proofs.+walk_boolean.Goals as goal
-
--- What a call for an operand asks.
-operand : (t : List ℕ) (i own j : ℕ) {v m : ℕ} {now : List ℕ} → i ≡ own → psl_refusal t ≡ none → i < count t → Boolean t i j → Room v m now
-    → (j < own) × ((psl_refusal t ≡ none) × (j < count t) × (kind_at t j < 4) × Room v m now)
-operand t i own j d e h b r = (omega (arith, b.0), (e, omega (arith, b.0), b.1, r))
 
 -- true, var
 pub append-requires : goal.append-requires
@@ -31,7 +22,7 @@ pub walk_boolean-x-requires : goal.walk_boolean-x-requires
 walk_boolean-x-requires t c =
     let P = c.requires in
     let b = left-boolean c.args.t.now P.0 c.args.i.0 P.1 (omega arith) (omega arith) in
-    operand _ _ _ _ (omega arith) P.0 P.1 b.0 (room_within P.3 (omega arith) (omega (arith, b.1)))
+    (omega (arith, b.0), boolean_in c.args.t.now P.0 c.args.i.0 P.1 (room_within P.3 (omega arith) (omega (arith, b.1))) b.0)
 
 -- bnot
 pub append-requires-then-kind-eq-BNOT : goal.append-requires-then-kind-eq-BNOT
@@ -51,7 +42,7 @@ pub walk_boolean-y-requires : goal.walk_boolean-y-requires
 walk_boolean-y-requires t c =
     let P = c.requires in
     let b = is-band c.args.t.now P.0 c.args.i.0 P.1 (omega arith) in
-    operand _ _ _ _ (omega arith) P.0 P.1 b.1 (room_within P.3 (omega arith) (omega (arith, weight_band b.2, c.walk_boolean-x.ensures.last)))
+    (omega (arith, b.1), boolean_in c.args.t.now P.0 c.args.i.0 P.1 (room_within P.3 (omega arith) (omega (arith, weight_band b.2, c.walk_boolean-x.ensures.last))) b.1)
 
 pub append-requires-2 : goal.append-requires-2
 append-requires-2 t c =

@@ -23,7 +23,7 @@ loop-i-preserved c = let s = c.args.s.now in
     let w = c.args.w.now in
     let at = c.args.at in
     let i = c.loop-i.i in
-    let in-s : at + i < length s = c.byte.ensures.1 (omega (arith, c.if-byte-w.false, c.shared_slice_known-in-loop-i-1.given i)) in
+    let in-s : at + i < length s = c.byte.ensures.1 (omega (arith, c.if-byte-w.false, c.type_inv.w i)) in
     (omega arith, omega arith, λ _. word_more w s at i c.loop-i.invariant.1 c.loop-i.invariant.2 c.loop-i-test.true in-s (sym c.byte.ensures.0 ∙ c.if-byte-w.false))
 
 pub returns : goal.returns
