@@ -1,17 +1,18 @@
 -- What the readers, the translator and the verdicts answer, in the terms of a run.
+use Rattle.std.specs.Prelude.{Bool, true, false, Result, Ok, Err}
+use Rattle.trace.specs.declared.refusal.Refusal.TheVariants.{EmptyTrace, ListRoom}
 use mathlib.Core.Path.{◌≡◌, refl, ap, sym, subst, ◌∙◌}
 use mathlib.Core.Option.{Option, none, some}
 use mathlib.Core.List.{List}
-use Prim.Native.Nat.{ℕ, suc, ◌+◌, ◌*◌, ◌≤◌}
+use Prim.Native.Nat.{ℕ, ◌*◌, ◌≤◌}
 use native.Mathlib.Omega.{arith}
 use borrow.Author.Tests.{le-leb, leb-true}
 use lib.Dec.{leb}
 use lib.ListN.{length, take, replicate, length-replicate, length-take}
 use Rattle.trace.specs.Limits.{most_letters}
 use Rattle.logic.specs.Trace.{size}
-use Rattle.trace.specs.declared.Refusal.{Refusal}
-use Rattle.trace.specs.Refusal.{refused, unless}
-use Rattle.trace.specs.declared.Verdict.{Verdict}
+use Rattle.trace.specs.declared.refusal.Refusal.{Refusal}
+use Rattle.trace.specs.Refusal.{unless}
 use Rattle.trace.specs.Verdict.{Judges}
 use Rattle.table.specs.Node.{numbers_of}
 use Rattle.table.proofs.NodeLaw.{length-numbers}
@@ -25,7 +26,6 @@ use Rattle.ltl.specs.Table.{tree_of}
 use Rattle.ltl.specs.Check.{ltl_rules, ltl_refusal}
 use Rattle.translate.specs.Emitted.{emitted, emitted_size}
 use Rattle.translate.specs.Answer.{translate_refusal, answer, Delivers}
-use Rattle.translate.specs.declared.Translation.{Translation}
 use Rattle.translate.proofs.DeliversLaw.{size-most}
 use Rattle.translate.proofs.EmittedLaw.{emitted-accepted}
 use Rattle.psl_verdict.specs.Verdict.{psl_verdict_refusal, PslJudges}
@@ -38,18 +38,12 @@ use Rattle.psl.specs.Closing.{closing_nodes}
 use Rattle.text.specs.Reading.{Takes, Refuses}
 use Rattle.formula_lines.specs.FormulaAnswer.{formula_limits, formula_refusal, FormulaAnswer}
 use Rattle.trace_lines.specs.TraceAnswer.{trace_limits, TraceAnswer}
-use Rattle.formula_lines.specs.declared.FormulaLine.TheVariants as FormulaLine
-use Rattle.trace_lines.specs.declared.TraceLine.TheVariants as TraceLine
 use Rattle.text.proofs.ReadingLaw.{takes_by, refuses_by, front-take, front_length}
 use Rattle.formula_lines.proofs.LimitsLaw.{limits-few, limits-accepted, formula-room}
 use Rattle.trace_lines.proofs.LimitsLaw.{limits-short, trace-room}
 use Rattle.psl.proofs.ClosingLaw.{closing_formula}
-use Rattle.text.specs.Inner.Writer.{Wrote}
-use Rattle.printing.specs.Printed.{refused_text, trace_text}
-use Rattle.answers.specs.Answer.{VerdictOn, LaterAnswer, later_text}
-use Rattle.answers.specs.Inner.{TablesOf, Accepted, FirstAnswer}
-use Rattle.answers.specs.declared.First.TheVariants as First
-use Rattle.answers.specs.declared.Later.{Later}
+use Rattle.answers.specs.Answer.{VerdictOn, LaterAnswer}
+use Rattle.answers.specs.Inner.{TablesOf, Accepted}
 
 -- ── The tables of a formula within the limits ──
 
@@ -63,11 +57,11 @@ tables_accepted {f} {psl} {ltl} a =
 -- ── Line 1 ──
 
 -- A list that took a translation had room for it.
-pub translation-few : {t l m : List ℕ} {s : ℕ} → Delivers t l (Translation.Nodes s) m → (s ≤ ltl_rules.most) × (3 * s ≤ length m)
+pub translation-few : {t l m : List ℕ} {s : ℕ} → Delivers t l (Ok s) m → (s ≤ ltl_rules.most) × (3 * s ≤ length m)
 translation-few {m = m} {s} d = let out = d.succeeds s refl in (omega (arith, out.bounded), omega (arith, out.sized, length-take (3 * s) m))
 
 module _ (line l m : List ℕ) where
-  module _ (n : ℕ) (a : FormulaAnswer line l (FormulaLine.Nodes n) m) where
+  module _ (n : ℕ) (a : FormulaAnswer line l (Ok n) m) where
     abbrev f : Formula
     f = a.0
 
@@ -76,9 +70,9 @@ module _ (line l m : List ℕ) where
     unfolding formula_refusal
     first-few =
         let nodes = closing_nodes f in
-        let (small, room) = or-none (formula_limits f) (unless (leb (3 * length nodes) (length l)) (refused 23) none) a.1.within in
+        let (small, room) = or-none (formula_limits f) (unless (leb (3 * length nodes) (length l)) ListRoom none) a.1.within in
         let few = limits-few f small in
-        let fits = leb-true (3 * length nodes) (length l) (unless-none (leb (3 * length nodes) (length l)) (refused 23) none room).0 in
+        let fits = leb-true (3 * length nodes) (length l) (unless-none (leb (3 * length nodes) (length l)) ListRoom none room).0 in
         let counted = length-numbers nodes in
         (omega (arith, a.2), omega (arith, a.2, ap length a.3 ∙ front_length (numbers_of nodes) l (omega arith)))
 
@@ -89,10 +83,10 @@ module _ (line l m : List ℕ) where
     stands = ap formula_of first-table ∙ closing_formula f
 
   module _ (room : length l ≡ 3 * psl_rules.most) where
-    pub first-refused : {x : Refusal} → FormulaAnswer line l (FormulaLine.Refused x) m → Refuses formula_line formula_limits line x
+    pub first-refused : {x : Refusal} → FormulaAnswer line l (Err x) m → Refuses formula_line formula_limits line x
     first-refused (a, _) = refuses_by (λ g. formula-room g (length l) (omega arith)) a
 
-    module _ (n : ℕ) (a : FormulaAnswer line l (FormulaLine.Nodes n) m) where
+    module _ (n : ℕ) (a : FormulaAnswer line l (Ok n) m) where
       first_taken : Takes formula_line formula_limits line (f n a)
       first_taken = takes_by (λ g. formula-room g (length l) (omega arith)) a.1
 
@@ -106,34 +100,30 @@ module _ (line l m : List ℕ) where
           let most = size-most (take (3 * n) m) accepted in
           rw (accepted, le-leb (3 * emitted_size (formula_of (take (3 * n) m))) (length k) (omega arith))
 
-      pub first-translated : {k k' : List ℕ} {x : Refusal} → length k ≡ 3 * ltl_rules.most → Delivers (take (3 * n) m) k (Translation.Refused x) k' → ⊥
+      pub first-translated : {k k' : List ℕ} {x : Refusal} → length k ≡ 3 * ltl_rules.most → Delivers (take (3 * n) m) k (Err x) k' → ⊥
       first-translated {k} {x = x} h d =
-          let e : Translation.Refused x ≡ Translation.Nodes (emitted_size (formula_of (take (3 * n) m))) =
+          let e : ◌≡◌ {A = Result ℕ Refusal} (Err x) (Ok (emitted_size (formula_of (take (3 * n) m)))) =
           d.answers ∙ ap (λ (o : Option Refusal). answer o (emitted_size (formula_of (take (3 * n) m)))) (fits k h) in
           let z : ◌≡◌ {A = ℕ} 0 1 = cc in omega arith
 
-      pub first_tables : {k k' : List ℕ} {s : ℕ} → Delivers (take (3 * n) m) k (Translation.Nodes s) k' → FirstAnswer line (First.Tables n s) m k'
+      pub first_tables : {k k' : List ℕ} {s : ℕ} → Delivers (take (3 * n) m) k (Ok s) k'
+          → (f : Formula) × Takes formula_line formula_limits line f × TablesOf f (take (3 * n) m) (take (3 * s) k')
       first_tables {s = s} d =
-          let out = d.succeeds s refl in (
-            f n a,
-            first_taken,
-            record { limits = first_taken.within; read = first-table n a; translated = out.is ∙ ap emitted (stands n a) },
-            (first-few n a).0,
-            (translation-few d).0,
-          )
+          let out = d.succeeds s refl in
+          (f n a, first_taken, record { limits = first_taken.within; read = first-table n a; translated = out.is ∙ ap emitted (stands n a) })
 
--- ── Later lines ──
+-- ── Result Verdicts Refusal lines ──
 
 -- A verdict that nothing refuses.
-tells : {o : Option Refusal} (A : Type 0) (v : Verdict) → o ≡ none → Judges o A v → VerdictOn A v
-tells A Verdict.Yes e (_, h) = h
-tells A Verdict.No e (_, h) = h
-tells A (Verdict.Refused x) e h = absurd (some-none (sym h ∙ e))
+tells : {o : Option Refusal} (A : Type 0) (v : Result Bool Refusal) → o ≡ none → Judges o A v → VerdictOn A v
+tells A (Ok true) e (_, h) = h
+tells A (Ok false) e (_, h) = h
+tells A (Err x) e h = absurd (some-none (sym h ∙ e))
 
-refused_by : {o : Option Refusal} (A : Type 0) (v : Verdict) (x : Refusal) → o ≡ some x → Judges o A v → v ≡ Verdict.Refused x
-refused_by A Verdict.Yes x e (h, _) = absurd (some-none (sym e ∙ h))
-refused_by A Verdict.No x e (h, _) = absurd (some-none (sym e ∙ h))
-refused_by A (Verdict.Refused y) x e h = let q = sym h ∙ e in cc
+refused_by : {o : Option Refusal} (A : Type 0) (v : Result Bool Refusal) (x : Refusal) → o ≡ some x → Judges o A v → v ≡ Err x
+refused_by A (Ok true) x e (h, _) = absurd (some-none (sym e ∙ h))
+refused_by A (Ok false) x e (h, _) = absurd (some-none (sym e ∙ h))
+refused_by A (Err y) x e h = let q = sym h ∙ e in cc
 
 -- Lists with room for a trace that is not too long.
 abbrev pub room : List ℕ
@@ -143,10 +133,10 @@ enough : most_letters ≤ length room
 enough = omega (arith, length-replicate {A = ℕ} most_letters 0)
 
 module _ (line l m : List ℕ) where
-  pub later_refused : {x : Refusal} → TraceAnswer line room room (TraceLine.Refused x) l m → Refuses line_of_trace trace_limits line x
+  pub later_refused : {x : Refusal} → TraceAnswer line room room (Err x) l m → Refuses line_of_trace trace_limits line x
   later_refused (a, _, _) = refuses_by (λ t. trace-room t (length room) (length room) enough enough) a
 
-  module _ (a b : ℕ) (r : TraceAnswer line room room (TraceLine.Letters a b) l m) where
+  module _ (a b : ℕ) (r : TraceAnswer line room room (Ok (record { lead = a; cycle = b })) l m) where
     abbrev t : TraceLists
     t = r.0
 
@@ -162,8 +152,8 @@ module _ (line l m : List ℕ) where
       omega (arith, r.3, short, enough, ap length r.5 ∙ front_length t.loop room (omega (arith, short, enough))),
     )
 
-    pub later_judged : {psl ltl : List ℕ} {v w : Verdict} → PslJudges psl (take a l) (take b m) v → LtlJudges ltl (take a l) (take b m) w
-        → (f : Formula) → TablesOf f psl ltl → LaterAnswer f line (Later.Verdicts v w)
+    pub later_judged : {psl ltl : List ℕ} {v w : Result Bool Refusal} → PslJudges psl (take a l) (take b m) v → LtlJudges ltl (take a l) (take b m) w
+        → (f : Formula) → TablesOf f psl ltl → LaterAnswer f line (Ok (record { psl = v; ltl = w }))
     unfolding psl_verdict_refusal
     later_judged {psl} {ltl} {v} {w} p q f s =
         let lead : take a l ≡ t.lead = ap (take a) r.4 ∙ front-take t.lead room a r.2 in
@@ -178,17 +168,6 @@ module _ (line l m : List ℕ) where
                 (tells (HoldsOn (formula_of psl) t.lead t.loop) v (not-long (psl_refusal psl) t.lead t.loop ok short) p');
             ltl = λ h. subst (λ (x : List ℕ). VerdictOn (LtlHoldsOn (tree_of x) t.lead t.loop) w) s.translated
                 (tells (LtlHoldsOn (tree_of ltl) t.lead t.loop) w (ltl_fine ltl t.lead t.loop ok' short h) q');
-            empty = λ h. refused_by (LtlHoldsOn (tree_of ltl) t.lead t.loop) w (refused 16) (ltl-empty ltl t.lead t.loop ok' short (omega arith)) q';
+            empty = λ h. refused_by (LtlHoldsOn (tree_of ltl) t.lead t.loop) w EmptyTrace (ltl-empty ltl t.lead t.loop ok' short (omega arith)) q';
           },
         )
-
--- The text put for either answer, of which k is the trace line's number.
-module _ {out out' : List ℕ} {at next i k : ℕ} {a : Later} where
-  pub refused-written : {x : Refusal} → a ≡ Later.Refused x → k ≡ i → Wrote (refused_text (k + 1) x) out out' at next → Wrote (later_text i a) out out' at next
-  refused-written {x} e n w =
-      let line : k + 1 ≡ suc i = omega arith in
-      subst (λ (y : Later). Wrote (later_text i y) out out' at next) (sym e) (subst (λ (j : ℕ). Wrote (refused_text j x) out out' at next) line w)
-
-  pub judged-written : {v w : Verdict} → a ≡ Later.Verdicts v w → k ≡ i → Wrote (trace_text k v w) out out' at next → Wrote (later_text i a) out out' at next
-  judged-written {v} {w} e n h =
-      subst (λ (y : Later). Wrote (later_text i y) out out' at next) (sym e) (subst (λ (j : ℕ). Wrote (trace_text j v w) out out' at next) n h)

@@ -1,9 +1,11 @@
 -- The statements of `Claims`.
+use Rattle.std.specs.Prelude.{Bool, true, false, Result, Ok, Err}
 use mathlib.Core.Path.{◌≡◌, refl, ap, sym, subst, ◌∙◌}
 use mathlib.Core.Logic.{inl, inr, ◌↔◌}
 use mathlib.Core.Option.{Option, none, some}
 use mathlib.Core.List.{List, [], ◌∷◌, ◌++◌}
-use Prim.Native.Nat.{ℕ, suc, ◌<◌}
+use Prim.Native.Nat.{ℕ, suc, ◌+◌, ◌^◌, ◌<◌, ◌≤◌}
+use lib.ListN.{length}
 use native.Mathlib.Omega.{arith}
 use native.Mathlib.Decide.{dec_lt}
 use borrow.Author.Tests.{lt-ltb}
@@ -11,8 +13,7 @@ use Rattle.logic.specs.Trace.{size}
 use Rattle.logic.specs.Formula.{Formula}
 use Rattle.logic.specs.Meaning.{HoldsOn}
 use Rattle.logic.specs.LtlMeaning.{LtlHoldsOn}
-use Rattle.trace.specs.declared.Refusal.{Refusal}
-use Rattle.trace.specs.declared.Verdict.{Verdict}
+use Rattle.trace.specs.declared.refusal.Refusal.{Refusal}
 use Rattle.trace.specs.Refusal.{or_else}
 use Rattle.trace.specs.Verdict.{long_refusal, Judges}
 use Rattle.trace.proofs.JudgesLaw.{one_verdict}
@@ -34,11 +35,13 @@ use Rattle.trace_lines.specs.Spelling.{TraceLists, line_of_trace}
 use Rattle.trace_lines.specs.TraceAnswer.{trace_limits}
 use Rattle.trace_lines.proofs.TraceLaw.{trace_alone}
 use Rattle.printing.specs.Printed.{refused_text, verdict_text, table_text}
+use Rattle.printing.specs.Limits.{most_later}
+use Rattle.printing.proofs.PrintedLaw.{trace-short, refused-short}
 use Rattle.answers.specs.Claims.{Claims}
 use Rattle.answers.specs.Answer.{VerdictOn, Judged, LaterAnswer, later_text}
 use Rattle.answers.specs.Input.{input_lines}
 use Rattle.answers.specs.Whole.{PrintsTraces, Prints}
-use Rattle.answers.specs.declared.Later.{Later}
+use Rattle.answers.specs.declared.Verdicts.{Verdicts}
 
 -- ── Verdicts ──
 
@@ -52,7 +55,7 @@ refused_alike t u lead loop e d h = rw (e, d, lt-ltb 0 (size lead loop) h) (then
     then_none none = refl
     then_none (some x) = refl
 
-agree_tables : (t lead loop : List ℕ) (v w : Verdict) → psl_refusal t ≡ none → 0 < size lead loop
+agree_tables : (t lead loop : List ℕ) (v w : Result Bool Refusal) → psl_refusal t ≡ none → 0 < size lead loop
     → PslJudges t lead loop v → LtlJudges (emitted (formula_of t)) lead loop w → v ≡ w
 agree_tables t lead loop v w e h p q =
     let u = emitted (formula_of t) in
@@ -61,20 +64,20 @@ agree_tables t lead loop v w e h p q =
     one_verdict (psl_verdict_refusal t lead loop) (translates (formula_of t) lead loop h) v w p q'
 
 -- The verdict on a claim is one that nothing refuses.
-unrefused : (A : Type 0) (v : Verdict) → VerdictOn A v → Judges none A v
-unrefused A Verdict.Yes a = (refl, a)
-unrefused A Verdict.No a = (refl, a)
-unrefused A (Verdict.Refused x) a = absurd a
+unrefused : (A : Type 0) (v : Result Bool Refusal) → VerdictOn A v → Judges none A v
+unrefused A (Ok true) a = (refl, a)
+unrefused A (Ok false) a = (refl, a)
+unrefused A (Err x) a = absurd a
 
 -- Verdicts on claims that hold together are equal.
-tells_both : {A B : Type 0} → (A ↔ B) → (v w : Verdict) → VerdictOn A v → VerdictOn B w → v ≡ w
+tells_both : {A B : Type 0} → (A ↔ B) → (v w : Result Bool Refusal) → VerdictOn A v → VerdictOn B w → v ≡ w
 tells_both {A} {B} e v w a b = one_verdict none e v w (unrefused A v a) (unrefused B w b)
 
 module _ (f : Formula) (t : TraceLists) where
-  agree_lines : (v w : Verdict) → Judged f t v w → 0 < size t.lead t.loop → v ≡ w
+  agree_lines : (v w : Result Bool Refusal) → Judged f t v w → 0 < size t.lead t.loop → v ≡ w
   agree_lines v w j h = tells_both (translates f t.lead t.loop h) v w j.psl (j.ltl h)
 
-  judged_alone : (v w v' w' : Verdict) → Judged f t v w → Judged f t v' w' → (v ≡ v') × (w ≡ w')
+  judged_alone : (v w v' w' : Result Bool Refusal) → Judged f t v w → Judged f t v' w' → (v ≡ v') × (w ≡ w')
   judged_alone v w v' w' j k = (tells_both (λ a. a, λ a. a) v v' j.psl k.psl, second)
     where
       second : w ≡ w'
@@ -88,27 +91,32 @@ module _ (f : Formula) (t : TraceLists) where
   Ltl = LtlHoldsOn (tree_of (emitted f)) t.lead t.loop
 
   -- What is printed as none is refused.
-  decided : (A : Type 0) (v : Verdict) → VerdictOn A v → verdict_text v ≡ text "none" → ⊥
+  decided : (A : Type 0) (v : Result Bool Refusal) → VerdictOn A v → verdict_text v ≡ text "none" → ⊥
   unfolding verdict_text
-  decided A Verdict.Yes a e = let z : ◌≡◌ {A = ℕ} 0 1 = cc in omega arith
-  decided A Verdict.No a e = let z : ◌≡◌ {A = ℕ} 0 1 = cc in omega arith
-  decided A (Verdict.Refused x) a e = a
+  decided A (Ok true) a e = let z : ◌≡◌ {A = ℕ} 0 1 = cc in omega arith
+  decided A (Ok false) a e = let z : ◌≡◌ {A = ℕ} 0 1 = cc in omega arith
+  decided A (Err x) a e = a
 
-  none_ltl : (v w : Verdict) → Judged f t v w → (verdict_text w ≡ text "none") ↔ (size t.lead t.loop ≡ 0)
+  none_ltl : (v w : Result Bool Refusal) → Judged f t v w → (verdict_text w ≡ text "none") ↔ (size t.lead t.loop ≡ 0)
   unfolding verdict_text
   none_ltl v w j =
       (λ e. elim (dec_lt 0 (size t.lead t.loop)) [ yes h ↦ absurd (decided Ltl w (j.ltl h) e) | no h ↦ omega arith ], λ h. ap verdict_text (j.empty h))
 
 -- ── Lines ──
 
-later_alone : (f : Formula) (line : List ℕ) (r q : Later) → LaterAnswer f line r → LaterAnswer f line q → r ≡ q
-later_alone f line (Later.Verdicts v w) (Later.Verdicts v' w') (t, a, j) (u, b, k) =
-    let d = taken_alone line_of_trace trace_alone trace_limits b a in
-    let (p, q) = judged_alone f t v w v' w' j (subst (λ (x : TraceLists). Judged f x v' w') d k) in
-    cc
-later_alone f line (Later.Verdicts v w) (Later.Refused x) (t, a, j) b = absurd (not_both line_of_trace trace_alone trace_limits a b)
-later_alone f line (Later.Refused x) (Later.Verdicts v w) b (t, a, j) = absurd (not_both line_of_trace trace_alone trace_limits a b)
-later_alone f line (Later.Refused x) (Later.Refused y) a b = ap Later.Refused (refused_alone line_of_trace trace_alone trace_limits a b)
+same_verdicts : (a b : Verdicts) → a.psl ≡ b.psl → a.ltl ≡ b.ltl → a ≡ b
+same_verdicts a b p q =
+    ap (λ (v : Result Bool Refusal). let z : Verdicts = record { psl = v; ltl = a.ltl } in z) p
+    ∙ ap (λ (w : Result Bool Refusal). let z : Verdicts = record { psl = b.psl; ltl = w } in z) q
+
+later_alone : (f : Formula) (line : List ℕ) (r q : Result Verdicts Refusal) → LaterAnswer f line r → LaterAnswer f line q → r ≡ q
+later_alone f line (Ok c) (Ok d) (t, a, j) (u, b, k) =
+    let e = taken_alone line_of_trace trace_alone trace_limits b a in
+    let (p, q) = judged_alone f t c.psl c.ltl d.psl d.ltl j (subst (λ (x : TraceLists). Judged f x d.psl d.ltl) e k) in
+    ap (λ (z : Verdicts). Ok z) (same_verdicts c d p q)
+later_alone f line (Ok c) (Err x) (t, a, j) b = absurd (not_both line_of_trace trace_alone trace_limits a b)
+later_alone f line (Err x) (Ok c) b (t, a, j) = absurd (not_both line_of_trace trace_alone trace_limits a b)
+later_alone f line (Err x) (Err y) a b = ap (λ (z : Refusal). Err z) (refused_alone line_of_trace trace_alone trace_limits a b)
 
 -- ── Runs ──
 
@@ -117,7 +125,7 @@ traces_alone f i [] out out' p q = p ∙ sym q
 traces_alone f i (line ∷ ls) out out' (r, rest, a, e, p) (q, rest', b, e', p') =
     let same = later_alone f line r q a b in
     let tail = traces_alone f (suc i) ls rest rest' p p' in
-    e ∙ ap (λ (x : List ℕ). later_text i r ++ x) tail ∙ ap (λ (x : Later). later_text i x ++ rest') same ∙ sym e'
+    e ∙ ap (λ (x : List ℕ). later_text i r ++ x) tail ∙ ap (λ (x : Result Verdicts Refusal). later_text i x ++ rest') same ∙ sym e'
 
 prints_alone : (ls : List (List ℕ)) (out out' : List ℕ) → Prints ls out → Prints ls out' → out ≡ out'
 prints_alone [] out out' p q = absurd p
@@ -130,6 +138,12 @@ prints_alone (line ∷ ls) out out' (inr (x, b, e')) (inl (f, rest, a, e, p)) = 
 prints_alone (line ∷ ls) out out' (inr (x, a, e)) (inr (y, b, e')) =
     e ∙ ap (refused_text 1) (refused_alone formula_line formula_injective formula_limits a b) ∙ sym e'
 
+-- ── Lengths ──
+
+pub later-short : (i : ℕ) (a : Result Verdicts Refusal) → i + 1 < 2 ^ 64 → length (later_text i a) ≤ most_later
+later-short i (Ok b) h = trace-short i _ _ (omega arith)
+later-short i (Err x) h = refused-short (suc i) x (omega arith)
+
 pub claims : Claims
 claims =
     record {
@@ -139,4 +153,5 @@ claims =
       one_output = λ input out out' p q. prints_alone (input_lines input) out out' p q;
       none_ltl = none_ltl;
       none_psl = λ f t v w j. decided f t (HoldsOn f t.lead t.loop) v j.psl;
+      later_short = later-short;
     }

@@ -1,17 +1,14 @@
 -- What the functions promise of the tables that line 1 leaves for the later lines, and the bytes of a line that its answer rests on.
-use Rattle.std.specs.Prelude.{◌≡◌, List, ℕ, ◌+◌, ◌*◌, ◌≤◌, take}
+use Rattle.std.specs.Prelude.{◌≡◌, List, ℕ, ◌+◌}
 use Rattle.std.proofs.Math.Option.{none}
 use Rattle.table.specs.Node.{numbers_of}
 use Rattle.logic.specs.Formula.{Formula}
-use Rattle.psl.specs.Check.{psl_rules, psl_refusal}
-use Rattle.ltl.specs.Check.{ltl_rules, ltl_refusal}
+use Rattle.psl.specs.Check.{psl_refusal}
+use Rattle.ltl.specs.Check.{ltl_refusal}
 use Rattle.translate.specs.Emitted.{emitted}
 use Rattle.text.specs.Limits.{most_bytes}
-use Rattle.text.specs.Reading.{Takes, Refuses}
-use Rattle.formula_lines.specs.Spelling.{formula_line}
 use Rattle.psl.specs.Closing.{closing_nodes}
 use Rattle.formula_lines.specs.FormulaAnswer.{formula_limits}
-use Rattle.answers.specs.declared.First.{First}
 
 -- The bytes of a line that are kept: one more than it may have, so that a longer one is seen to be.
 abbrev pub kept_bytes : ℕ
@@ -26,9 +23,3 @@ pub record TablesOf (f : Formula) (psl ltl : List ℕ) : Type 0 where
 -- Both tables pass their check.
 abbrev pub Accepted : List ℕ → List ℕ → Type 0
 Accepted psl ltl = (psl_refusal psl ≡ none) × (ltl_refusal ltl ≡ none)
-
--- Line 1: the tables of its formula stand at the front of two lists, n and s nodes; or its refusal.
-abbrev pub FirstAnswer : List ℕ → First → List ℕ → List ℕ → Type 0
-FirstAnswer line (First.Tables n s) psl ltl =
-    (f : Formula) × Takes formula_line formula_limits line f × TablesOf f (take (3 * n) psl) (take (3 * s) ltl) × (n ≤ psl_rules.most) × (s ≤ ltl_rules.most)
-FirstAnswer line (First.Refused x) psl ltl = Refuses formula_line formula_limits line x

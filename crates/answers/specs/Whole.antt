@@ -1,6 +1,6 @@
 -- What a run means: from the bytes of its input to the bytes of its output.
-use Rattle.std.specs.Prelude.{◌≡◌, ◌⊎◌, List, [], ◌∷◌, ◌++◌, ℕ, suc}
-use Rattle.trace.specs.declared.Refusal.{Refusal}
+use Rattle.std.specs.Prelude.{◌≡◌, ◌⊎◌, List, [], ◌∷◌, ◌++◌, ℕ, suc, Result}
+use Rattle.trace.specs.declared.refusal.Refusal.{Refusal}
 use Rattle.logic.specs.Formula.{Formula}
 use Rattle.translate.specs.Emitted.{emitted}
 use Rattle.formula_lines.specs.Spelling.{formula_line}
@@ -9,7 +9,7 @@ use Rattle.formula_lines.specs.FormulaAnswer.{formula_limits}
 use Rattle.answers.specs.Input.{input_lines}
 use Rattle.printing.specs.Printed.{refused_text, table_text}
 use Rattle.answers.specs.Answer.{LaterAnswer, later_text}
-use Rattle.answers.specs.declared.Later.{Later}
+use Rattle.answers.specs.declared.Verdicts.{Verdicts}
 
 -- ── Trace lines ──
 
@@ -17,7 +17,7 @@ use Rattle.answers.specs.declared.Later.{Later}
 abbrev pub PrintsTraces : Formula → ℕ → List (List ℕ) → List ℕ → Type 0
 PrintsTraces f i [] out = out ≡ []
 PrintsTraces f i (line ∷ ls) out =
-    (r : Later) × (rest : List ℕ) × LaterAnswer f line r × (out ≡ later_text i r ++ rest) × PrintsTraces f (suc i) ls rest
+    (r : Result Verdicts Refusal) × (rest : List ℕ) × LaterAnswer f line r × (out ≡ later_text i r ++ rest) × PrintsTraces f (suc i) ls rest
 
 -- ── All lines ──
 

@@ -1,49 +1,110 @@
-// Requests in words, a line each, over lists that are kept between them: see README. Each is answered by one operation.
-
-use crate::lists::first_bytes;
-use crate::look::ask_kept;
-use crate::tables::ask_table;
-use crate::traces::ask_trace;
-use crate::words::{LETTER, TRACE, request_of};
+// Requests in words: see README.
+use crate::faults::Fault;
 use logic::Letter;
+use std::alloc::Global;
+use std::str;
+use std::str::FromStr;
+use table::NodeNo;
+use trace::Moment;
 
-// How much of each kept list is in use, how many places an operation is lent at most, and how many bytes the answer has.
-#[derive(Clone, Copy)]
-pub struct Kept {
-    pub psl: usize,
-    pub ltl: usize,
-    pub lead: usize,
-    pub cycle: usize,
-    pub room: usize,
-    pub end: usize,
+#[derive(Drop)]
+pub enum Request<'a> {
+    Formula(&'a [u8]),
+    CheckPsl(Vec<u16>),
+    CheckLtl(Vec<u16>),
+    Translate,
+    Trace(&'a [u8]),
+    LeadIn(Vec<Letter>),
+    Loop(Vec<Letter>),
+    PslVerdict,
+    LtlVerdict,
+    Letter(Moment),
+    Rest(Moment),
+    Node(NodeNo, [u16; 3]),
+    Nodes,
+    ShowPsl(Option<usize>),
+    ShowLtl(Option<usize>),
+    Room(usize),
+    Help,
+    Remark(&'a [u8]),
 }
 
-// What is kept, with an answer of so many bytes; a line that is not understood has an answer of none.
-pub fn ended(k: Kept, end: usize) -> Kept {
-    let mut r = k;
-    r.end = end;
-    r
+// A number in decimal, without a sign or leading zeros.
+fn number<T: FromStr>(digits: &[u8]) -> Result<T, Fault>
+where
+    T::Err: Drop,
+{
+    if !matches!(digits, [b'0'] | [b'1'..=b'9', ..]) {
+        return Err(Fault::NotUnderstood);
+    }
+    str::from_utf8(digits)
+        .ok()
+        .and_then(|text| text.parse().ok())
+        .ok_or(Fault::NotUnderstood)
 }
 
-// The answer to a line, which is the first so many bytes, and what is kept after it. A request is answered by its group: those that change a table, those that change the trace or the
-// room, those that change neither.
-pub fn answer(
-    bytes: &[u8],
-    length: usize,
-    psl: &mut [u16],
-    ltl: &mut [u16],
-    lead: &mut [Letter],
-    cycle: &mut [Letter],
-    out: &mut [u8],
-    k: Kept,
-) -> Kept {
-    let line = first_bytes(bytes, length);
-    let q = request_of(line);
-    if q.word < TRACE {
-        return ask_table(line, q, psl, ltl, out, k);
+// Numbers with one space between them, or none at all.
+fn numbers<T: FromStr + Drop>(alloc: Global, list: Option<&[u8]>) -> Result<Vec<T>, Fault>
+where
+    T::Err: Drop,
+{
+    let mut all = Vec::new(alloc);
+    if let Some(list) = list {
+        for digits in list.split(|b| *b == b' ') {
+            all.push(number(digits)?)?;
+        }
     }
-    if q.word < LETTER {
-        return ask_trace(line, q, lead, cycle, out, k);
+    Ok(all)
+}
+
+// A node's number, its kind and its two places.
+fn node<'a>(numbers: &[u16]) -> Result<Request<'a>, Fault> {
+    match numbers {
+        [no, kind, left, right] => Ok(Request::Node(NodeNo(*no), [*kind, *left, *right])),
+        _ => Err(Fault::NotUnderstood),
     }
-    ended(k, ask_kept(line, q, psl, ltl, lead, cycle, out, k))
+}
+
+// The request of a word and what follows it after a space.
+fn request_of<'a>(
+    alloc: Global,
+    word: &str,
+    about: Option<&'a [u8]>,
+) -> Result<Request<'a>, Fault> {
+    let request = match (word, about) {
+        ("formula", _) => Request::Formula(about.unwrap_or_default()),
+        ("check-psl", _) => Request::CheckPsl(numbers(alloc, about)?),
+        ("check-ltl", _) => Request::CheckLtl(numbers(alloc, about)?),
+        ("translate", None) => Request::Translate,
+        ("trace", _) => Request::Trace(about.unwrap_or_default()),
+        ("lead-in", _) => Request::LeadIn(numbers(alloc, about)?),
+        ("loop", _) => Request::Loop(numbers(alloc, about)?),
+        ("psl-verdict", None) => Request::PslVerdict,
+        ("ltl-verdict", None) => Request::LtlVerdict,
+        ("letter", Some(m)) => Request::Letter(Moment(number(m)?)),
+        ("rest", Some(m)) => Request::Rest(Moment(number(m)?)),
+        ("node", _) => node(&numbers(alloc, about)?)?,
+        ("nodes", None) => Request::Nodes,
+        ("show-psl", None) => Request::ShowPsl(None),
+        ("show-psl", Some(n)) => Request::ShowPsl(Some(number(n)?)),
+        ("show-ltl", None) => Request::ShowLtl(None),
+        ("show-ltl", Some(n)) => Request::ShowLtl(Some(number(n)?)),
+        ("room", Some(n)) => Request::Room(number(n)?),
+        ("help", None) => Request::Help,
+        _ => return Err(Fault::NotUnderstood),
+    };
+    Ok(request)
+}
+
+impl<'a> Request<'a> {
+    // A word and, after one space, what it is about. A line that begins with # is a remark.
+    pub fn parse(alloc: Global, line: &'a [u8]) -> Result<Request<'a>, Fault> {
+        if line.starts_with(b"#") {
+            return Ok(Request::Remark(line));
+        }
+        let mut parts = line.splitn(2, |b| *b == b' ');
+        let word = parts.next().unwrap_or_default();
+        let word = str::from_utf8(word).unwrap_or_default();
+        request_of(alloc, word, parts.next())
+    }
 }

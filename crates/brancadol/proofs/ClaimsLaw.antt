@@ -7,7 +7,7 @@ use Rattle.ltl_verdict.proofs.ClaimsLaw as ltl
 use Rattle.translate.proofs.ClaimsLaw as translator
 use Rattle.formula_lines.proofs.ClaimsLaw as formulas
 use Rattle.trace_lines.proofs.ClaimsLaw as traces
-use Rattle.brancadol.specs.Coded.{verdict_code, translation_code, formula_code, trace_code}
+use Rattle.brancadol.specs.Coded.{verdict_code, count_code, trace_code}
 use Rattle.brancadol.specs.Answer.{PslCoded, LtlCoded, TranslationCoded, FormulaCoded, TraceCoded}
 use Rattle.brancadol.specs.Claims.{Claims}
 
@@ -24,12 +24,12 @@ one_ltl t lead loop r r' (v, j, p) (w, k, q) = one_code verdict_code ((ltl.claim
 one_translation : (t l : List ℕ) (r r' : ℕ) (m m' : List ℕ) → TranslationCoded t l r m → TranslationCoded t l r' m' → (r ≡ r') × (m ≡ m')
 one_translation t l r r' m m' (a, d, p) (b, e, q) =
     let same = (translator.claims).one_answer t l a b m m' d e in
-    (one_code translation_code same.0 p q, same.1)
+    (one_code count_code same.0 p q, same.1)
 
 one_formula : (s l : List ℕ) (r r' : ℕ) (m m' : List ℕ) → FormulaCoded s l r m → FormulaCoded s l r' m' → (r ≡ r') × (m ≡ m')
 one_formula s l r r' m m' (a, d, p) (b, e, q) =
     let same = (formulas.claims).formula_answer s l a b m m' d e in
-    (one_code formula_code same.0 p q, same.1)
+    (one_code count_code same.0 p q, same.1)
 
 one_trace : (s k l : List ℕ) (r r' : ℕ) (m m' n n' : List ℕ) → TraceCoded s k l r m n → TraceCoded s k l r' m' n' → (r ≡ r') × (m ≡ m') × (n ≡ n')
 one_trace s k l r r' m m' n n' (a, d, p) (b, e, q) =

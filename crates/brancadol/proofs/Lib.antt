@@ -1,2 +1,1 @@
-pub mod CopyLaw
 pub mod ClaimsLaw

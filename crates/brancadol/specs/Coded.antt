@@ -1,13 +1,9 @@
 -- An answer as one number of 64 bits: a number and 256 × a value.
-use Rattle.std.specs.Prelude.{ℕ, ◌+◌, ◌*◌, ◌%◌}
-use Rattle.trace.specs.declared.Refusal.{Refusal}
-use Rattle.trace.specs.declared.Found.{Found}
-use Rattle.table.specs.declared.Checked.{Checked}
-use Rattle.translate.specs.declared.Translation.{Translation}
-use Rattle.trace.specs.declared.Verdict.{Verdict}
-use Rattle.formula_lines.specs.declared.FormulaLine.{FormulaLine}
-use Rattle.trace_lines.specs.declared.TraceLine.{TraceLine}
-use Rattle.node_lines.specs.declared.NodeLine.{NodeLine}
+use Rattle.std.specs.Prelude.{ℕ, ◌+◌, ◌*◌, ◌%◌, Bool, Result, Ok, Err}
+use Rattle.trace.specs.declared.refusal.Refusal.{Refusal}
+use Rattle.trace.specs.Refusal.{number}
+use Rattle.trace_lines.specs.declared.Lengths.{Lengths}
+use Rattle.brancadol.specs.Value.{nothing, verdict, lengths}
 
 -- The value has 56 bits: no count reaches 2^56, and no length of a list in memory.
 abbrev pub code : ℕ → ℕ → ℕ
@@ -18,35 +14,26 @@ abbrev pub success_code : ℕ → ℕ
 success_code value = code 0 value
 
 abbrev pub refusal_code : Refusal → ℕ
-refusal_code x = code x.0 0
+refusal_code x = code (number x) 0
+
+-- The code of any answer, by the value of its success.
+abbrev pub answer_code : {A : Type 0} → (A → ℕ) → Result A Refusal → ℕ
+answer_code value (Ok x) = success_code (value x)
+answer_code value (Err x) = refusal_code x
 
 -- The letter itself goes into the lent place.
-abbrev pub found_code : Found → ℕ
-found_code (Found.Letter x) = success_code 0
-found_code (Found.Refused x) = refusal_code x
+abbrev pub found_code : Result ℕ Refusal → ℕ
+found_code = answer_code (λ (x : ℕ). 0)
 
-abbrev pub checked_code : Checked → ℕ
-checked_code Checked.Accepted = success_code 0
-checked_code (Checked.Refused x) = refusal_code x
+abbrev pub checked_code : Result (Unit {0}) Refusal → ℕ
+checked_code = answer_code nothing
 
-abbrev pub verdict_code : Verdict → ℕ
-verdict_code Verdict.No = success_code 0
-verdict_code Verdict.Yes = success_code 1
-verdict_code (Verdict.Refused x) = refusal_code x
+abbrev pub verdict_code : Result Bool Refusal → ℕ
+verdict_code = answer_code verdict
 
-abbrev pub translation_code : Translation → ℕ
-translation_code (Translation.Nodes s) = success_code s
-translation_code (Translation.Refused x) = refusal_code x
+-- The nodes of a table, or the bytes of a line.
+abbrev pub count_code : Result ℕ Refusal → ℕ
+count_code = answer_code (λ (n : ℕ). n)
 
-abbrev pub formula_code : FormulaLine → ℕ
-formula_code (FormulaLine.Nodes n) = success_code n
-formula_code (FormulaLine.Refused x) = refusal_code x
-
--- Two lengths, each below 65,536: the lead-in's and then the loop's.
-abbrev pub trace_code : TraceLine → ℕ
-trace_code (TraceLine.Letters lead cycle) = success_code (lead % 65536 + 65536 * (cycle % 65536))
-trace_code (TraceLine.Refused x) = refusal_code x
-
-abbrev pub node_code : NodeLine → ℕ
-node_code (NodeLine.Bytes n) = success_code n
-node_code (NodeLine.Refused x) = refusal_code x
+abbrev pub trace_code : Result Lengths Refusal → ℕ
+trace_code = answer_code lengths

@@ -1,3 +1,4 @@
+pub mod Value
 pub mod Coded
 pub mod Answer
 pub mod Claims

@@ -1,38 +1,27 @@
--- Answers as one number: a refusal's number, which is below 256, or 256 and the value. Counts and lengths are below 65,536.
-use Rattle.std.specs.Prelude.{ℕ, ◌+◌, ◌*◌, ◌%◌}
-use Rattle.trace.specs.declared.Found.{Found}
-use Rattle.table.specs.declared.Checked.{Checked}
-use Rattle.translate.specs.declared.Translation.{Translation}
-use Rattle.trace.specs.declared.Verdict.{Verdict}
-use Rattle.formula_lines.specs.declared.FormulaLine.{FormulaLine}
-use Rattle.trace_lines.specs.declared.TraceLine.{TraceLine}
-use Rattle.node_lines.specs.declared.NodeLine.{NodeLine}
+-- Answers as one number: a refusal's number, which is below 256, or 256 and the value.
+use Rattle.std.specs.Prelude.{ℕ, ◌+◌, Bool, Result, Ok, Err}
+use Rattle.trace.specs.declared.refusal.Refusal.{Refusal}
+use Rattle.trace.specs.Refusal.{number}
+use Rattle.trace_lines.specs.declared.Lengths.{Lengths}
+use Rattle.exports.specs.Value.{nothing, verdict, count, lengths}
 
-abbrev pub found_code : Found → ℕ
-found_code (Found.Letter x) = 256 + x
-found_code (Found.Refused x) = x.0
+-- The code of any answer, by that of its success.
+abbrev pub answer_code : {A : Type 0} → (A → ℕ) → Result A Refusal → ℕ
+answer_code value (Ok x) = value x
+answer_code value (Err x) = number x
 
-abbrev pub checked_code : Checked → ℕ
-checked_code Checked.Accepted = 256
-checked_code (Checked.Refused x) = x.0
+abbrev pub found_code : Result ℕ Refusal → ℕ
+found_code = answer_code (λ (x : ℕ). 256 + x)
 
-abbrev pub translation_code : Translation → ℕ
-translation_code (Translation.Nodes s) = 256 + s % 65536
-translation_code (Translation.Refused x) = x.0
+abbrev pub checked_code : Result (Unit {0}) Refusal → ℕ
+checked_code = answer_code nothing
 
-abbrev pub verdict_code : Verdict → ℕ
-verdict_code Verdict.Yes = 257
-verdict_code Verdict.No = 256
-verdict_code (Verdict.Refused x) = x.0
+abbrev pub verdict_code : Result Bool Refusal → ℕ
+verdict_code = answer_code verdict
 
-abbrev pub formula_code : FormulaLine → ℕ
-formula_code (FormulaLine.Nodes n) = 256 + n % 65536
-formula_code (FormulaLine.Refused x) = x.0
+-- The nodes of a table, or the bytes of a line.
+abbrev pub count_code : Result ℕ Refusal → ℕ
+count_code = answer_code count
 
-abbrev pub trace_code : TraceLine → ℕ
-trace_code (TraceLine.Letters lead cycle) = 256 + 65536 * (lead % 65536) + cycle % 65536
-trace_code (TraceLine.Refused x) = x.0
-
-abbrev pub node_code : NodeLine → ℕ
-node_code (NodeLine.Bytes n) = 256 + n % 65536
-node_code (NodeLine.Refused x) = x.0
+abbrev pub trace_code : Result Lengths Refusal → ℕ
+trace_code = answer_code lengths

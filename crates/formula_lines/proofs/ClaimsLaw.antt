@@ -11,18 +11,19 @@ use Rattle.formula_lines.specs.Claims.{Claims}
 use Rattle.formula_lines.specs.Spelling.{formula_line}
 use Rattle.psl.specs.Closing.{closing_nodes}
 use Rattle.formula_lines.specs.FormulaAnswer.{formula_refusal, FormulaAnswer}
-use Rattle.formula_lines.specs.declared.FormulaLine.{FormulaLine}
+use Rattle.trace.specs.declared.refusal.Refusal.{Refusal}
+use Rattle.std.specs.Prelude.{Result, Ok, Err}
 use Rattle.formula_lines.proofs.FormulaLaw.{formula_injective}
 use Rattle.formula_lines.proofs.LimitsLaw.{limits-accepted}
 
-formula_answer : (s l : List ℕ) (r r' : FormulaLine) (m m' : List ℕ) → FormulaAnswer s l r m → FormulaAnswer s l r' m' → (r ≡ r') × (m ≡ m')
-formula_answer s l (FormulaLine.Nodes n) (FormulaLine.Nodes n') m m' (f, a, p, q) (g, b, p', q') =
+formula_answer : (s l : List ℕ) (r r' : Result ℕ Refusal) (m m' : List ℕ) → FormulaAnswer s l r m → FormulaAnswer s l r' m' → (r ≡ r') × (m ≡ m')
+formula_answer s l (Ok n) (Ok n') m m' (f, a, p, q) (g, b, p', q') =
     let d = taken_alone formula_line formula_injective (formula_refusal (length l)) a b in
-    (ap FormulaLine.Nodes (p ∙ ap (λ (h : Formula). length (closing_nodes h)) d ∙ sym p'), q ∙ ap (λ (h : Formula). front (numbers_of (closing_nodes h)) l) d ∙ sym q')
-formula_answer s l (FormulaLine.Nodes n) (FormulaLine.Refused e) m m' (f, a, _, _) (b, _) = absurd (not_both formula_line formula_injective (formula_refusal (length l)) a b)
-formula_answer s l (FormulaLine.Refused e) (FormulaLine.Nodes n) m m' (a, _) (f, b, _, _) = absurd (not_both formula_line formula_injective (formula_refusal (length l)) b a)
-formula_answer s l (FormulaLine.Refused e) (FormulaLine.Refused e') m m' (a, p) (b, q) =
-    (ap FormulaLine.Refused (refused_alone formula_line formula_injective (formula_refusal (length l)) a b), p ∙ sym q)
+    (ap (λ (z : ℕ). Ok z) (p ∙ ap (λ (h : Formula). length (closing_nodes h)) d ∙ sym p'), q ∙ ap (λ (h : Formula). front (numbers_of (closing_nodes h)) l) d ∙ sym q')
+formula_answer s l (Ok n) (Err e) m m' (f, a, _, _) (b, _) = absurd (not_both formula_line formula_injective (formula_refusal (length l)) a b)
+formula_answer s l (Err e) (Ok n) m m' (a, _) (f, b, _, _) = absurd (not_both formula_line formula_injective (formula_refusal (length l)) b a)
+formula_answer s l (Err e) (Err e') m m' (a, p) (b, q) =
+    (ap (λ (z : Refusal). Err z) (refused_alone formula_line formula_injective (formula_refusal (length l)) a b), p ∙ sym q)
 
 pub claims : Claims
 claims = record { one_formula = formula_injective; accepted = limits-accepted; formula_answer = formula_answer }

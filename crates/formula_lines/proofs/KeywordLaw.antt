@@ -1,71 +1,66 @@
--- What each way out of the readers of keywords gives.
+-- What each way out of the reader of keywords gives.
 use mathlib.Core.Path.{◌≡◌, refl, ap, sym, subst, ◌∙◌}
 use mathlib.Core.Logic.{◌⊎◌, inl, inr}
-use mathlib.Core.Bool.{Bool, true, false, ◌||◌}
-use mathlib.Core.List.{List, [], ◌∷◌, ◌++◌}
-use Prim.Native.Nat.{ℕ, zero, suc, ◌+◌, ◌<◌, ◌≤◌}
+use mathlib.Core.Bool.{Bool, true, false}
+use mathlib.Core.List.{List, [], ◌∷◌, ◌++◌, map}
+use Prim.Native.Nat.{ℕ, zero, suc, ◌+◌, max, ◌<◌, ◌≤◌}
 use native.Mathlib.Omega.{arith}
-use borrow.Author.Tests.{eqb-true}
-use lib.ListN.{length, drop}
-use lib.Dec.{T, eqb}
-use Rattle.text.specs.Inner.Places.{Agree, Begins, Stands}
-use Rattle.text.specs.Inner.Scan.{WordRead}
-use Rattle.formula_lines.specs.Inner.Form.{keyword, kinds}
-use Rattle.text.specs.Inner.Words.{elem}
-use Rattle.formula_lines.specs.Inner.Reader.{KeywordOf, KeywordRead}
-use Rattle.formula_lines.specs.declared.Keyword.{Keyword}
-use Rattle.formula_lines.specs.declared.Keyword.TheVariants.{Found, FaultAt}
+use borrow.Author.Tests.{ltb-true, ltb-false}
+use native.Mathlib.Numerals.{add-one}
+use lib.ListN.{length, take, drop, get_or}
+use lib.Dec.{ltb}
+use Rattle.text.specs.Inner.Places.{Agree, Begins, Stops}
 use Rattle.text.proofs.PlaceLaw.{agree_less}
-use Rattle.text.proofs.WordLaw.{elem_here, elem_there}
+use Rattle.psl.specs.declared.kind.Kind.{Kind}
+use Rattle.psl.specs.Kind.{number}
+use Rattle.formula_lines.specs.declared.Sort.{Sort}
+use Rattle.text.proofs.WordLaw.{elem_split, elem_first, elem_last}
+use Rattle.formula_lines.specs.Inner.Form.{keyword}
+use Rattle.formula_lines.specs.Inner.Reader.{KeywordOf, NoneOf, sort_number}
 
-pub none_yet : (s : List ℕ) (at : ℕ) → at ≤ length s → KeywordRead [] s at (FaultAt at)
+pub none_yet : (s : List ℕ) (at : ℕ) → at ≤ length s → NoneOf [] s at at
 none_yet s at h =
     record { after = omega arith; within = h; begun = ([], [], refl, inl refl); none = λ s' g (w, t, (k, m, _), _). absurd m }
 
-more_words : (kind : ℕ) (ks : List ℕ) (w : List ℕ) → (w ≡ []) ⊎ KeywordOf ks w → (w ≡ []) ⊎ KeywordOf (kind ∷ ks) w
-more_words kind ks w (inl e) = inl e
-more_words kind ks w (inr (k, m, e)) = inr (k, elem_there kind k ks m, e)
+-- One keyword more is tried: none of ks stands up to q, and that of j none up to p.
+module _ {s : List ℕ} {at p q : ℕ} (j : ℕ) (ks : List ℕ) (a : NoneOf ks s at q) (b : Stops (λ w. w ≡ keyword j) s at p) where
+  neither : (r : ℕ) → p ≤ r → q ≤ r → (s' : List ℕ) → Agree (suc r) s s' → Begins (KeywordOf (ks ++ j ∷ [])) (drop at s') → ⊥
+  neither r h i s' g (v, t, (k, n, d), f) =
+      elim (elem_split k j ks n) [
+        | inl m ↦ a.none s' (agree_less (omega arith) g) (v, t, (k, m, d), f)
+        | inr e ↦ b.none s' (agree_less (omega arith) g) (v, t, d ∙ ap keyword (sym e), f)
+      ]
 
--- One keyword more, w, which stands up to p, before the kinds ks of which the reading is o.
-module _ (s w : List ℕ) (at p kind : ℕ) (ks : List ℕ) (e : keyword kind ≡ w) (in-s : at ≤ length s) (m : WordRead w s at p) (o : Keyword) (h : KeywordRead ks s at o) where
-  pub try_found : p ≡ at + length w → KeywordRead (kind ∷ ks) s at (Found kind p)
-  try_found i = (elem_here kind ks, subst (λ (x : List ℕ). Stands x s at p) (sym e) (m.whole in-s i))
+  more_words : (w : List ℕ) → (w ≡ []) ⊎ KeywordOf ks w → (w ≡ []) ⊎ KeywordOf (ks ++ j ∷ []) w
+  more_words w (inl e) = inl e
+  more_words w (inr (k, m, e)) = inr (k, elem_first k j ks m, e)
 
-  pub try_later : (k next : ℕ) → o ≡ Found k next → KeywordRead (kind ∷ ks) s at (Found k next)
-  try_later k next i = let (a, b) = subst (KeywordRead ks s at) i h in (elem_there kind k ks a, b)
+  pub none_more : {r : ℕ} → r ≡ max q p → NoneOf (ks ++ j ∷ []) s at r
+  none_more {r} e = go (ltb q p) refl
+    where
+      go : (c : Bool) → ltb q p ≡ c → NoneOf (ks ++ j ∷ []) s at r
+      go true u =
+          let d : p ≡ r = omega (arith, ltb-true q p u) in
+          let (x, y, i, v) = b.begun in
+          subst (NoneOf (ks ++ j ∷ []) s at) d
+          (record { after = b.after; within = b.within; begun = (x, y, i, inr (j, elem_last j ks, v)); none = neither p (omega arith) (omega arith) })
+      go false u =
+          let d : q ≡ r = omega (arith, ltb-false q p u) in
+          let (x, y, i, v) = a.begun in
+          subst (NoneOf (ks ++ j ∷ []) s at) d
+          (record { after = a.after; within = a.within; begun = (x, y, i, more_words (x ++ y) v); none = neither q (omega arith) (omega arith) })
 
-  module _ (z : p ≡ at + length w → ⊥) (q : ℕ) (i : o ≡ FaultAt q) where
-    others : KeywordRead ks s at (FaultAt q)
-    others = subst (KeywordRead ks s at) i h
+-- ── Sorts ──
 
-    neither : (r : ℕ) → p ≤ r → q ≤ r → (s' : List ℕ) → Agree (suc r) s s' → Begins (KeywordOf (kind ∷ ks)) (drop at s') → ⊥
-    neither r a b s' g (v, t, (k, n, d), f) = go (eqb kind k) refl n
-      where
-        go : (y : Bool) → eqb kind k ≡ y → T (y || elem k ks) → ⊥
-        go true y j = (m.part in-s z).none s' (agree_less (omega arith) g) (v, t, d ∙ ap keyword (sym (eqb-true kind k y)) ∙ e, f)
-        go false y j = others.none s' (agree_less (omega arith) g) (v, t, (k, j, d), f)
+pub sort_formula : (so : Sort) → (so ≡ Sort.Boolean → ⊥) → sort_number so ≡ 0 → ⊥
+sort_formula Sort.Boolean z e = z refl
+sort_formula Sort.Formula z e = absurd (omega (arith, e))
 
-    pub try_far : p < q → KeywordRead (kind ∷ ks) s at (FaultAt q)
-    try_far a =
-        let (x, y, u, v) = others.begun in
-        record {
-          after = others.after;
-          within = others.within;
-          begun = (x, y, u, more_words kind ks (x ++ y) v);
-          none = neither q (omega arith) (omega arith);
-        }
+-- The numbers of one kind more.
+numbers_suc : (ks : List Kind) (i : ℕ) (d : Kind) → i < length ks → map number (take i ks) ++ (number (get_or ks i d) ∷ []) ≡ map number (take (suc i) ks)
+numbers_suc [] i d h = absurd (omega arith)
+numbers_suc (k ∷ ks) zero d h = refl
+numbers_suc (k ∷ ks) (suc i) d h = ap (λ (x : List ℕ). number k ∷ x) (numbers_suc ks i d (omega arith))
 
-    pub try_near : q ≤ p → KeywordRead (kind ∷ ks) s at (FaultAt p)
-    try_near a =
-        let here = m.part in-s z in
-        let (x, y, u, v) = here.begun in
-        record {
-          after = here.after;
-          within = here.within;
-          begun = (x, y, u, inr (kind, elem_here kind ks, v ∙ sym e));
-          none = neither p (omega arith) (omega arith);
-        }
-
-pub formula_words : (so : ℕ) → (so ≡ 0 → ⊥) → kinds so ≡ kinds 1
-formula_words zero z = absurd (z refl)
-formula_words (suc so) z = refl
+pub numbers_more : (ks : List Kind) (i : ℕ) (d : Kind) → i < length ks → map number (take i ks) ++ (number (get_or ks i d) ∷ []) ≡ map number (take (i + 1) ks)
+numbers_more ks i d h = rw add-one (numbers_suc ks i d h)

@@ -8,7 +8,7 @@ use borrow.Author.Tests.{leb-true, le-leb, not-true}
 use lib.Dec.{leb}
 use lib.ListN.{length}
 use Rattle.table.specs.Node.{numbers_of}
-use Rattle.trace.specs.Refusal.{refused}
+use Rattle.trace.specs.declared.refusal.Refusal.TheVariants.{ManyNodes, LargeSignal, ListRoom}
 use Rattle.logic.specs.Formula.{Formula}
 use Rattle.psl.specs.Check.{psl_rules, psl_refusal}
 use Rattle.text.proofs.LimitsLaw.{passed, third}
@@ -25,14 +25,14 @@ module _ (f : Formula) where
 
   pub limits-few : formula_limits f ≡ none → length (closing_nodes f) ≤ psl_rules.most
   unfolding formula_limits
-  limits-few e = leb-true _ _ (passed few small (refused 19) (refused 20) e).0
+  limits-few e = leb-true _ _ (passed few small ManyNodes LargeSignal e).0
 
   -- The table passes the PSL check.
   pub limits-accepted : formula_limits f ≡ none → psl_refusal (numbers_of (closing_nodes f)) ≡ none
   unfolding formula_limits
-  limits-accepted e = let (p, q) = passed few small (refused 19) (refused 20) e in closing_accepted f (leb-true _ _ p) (not-true (large_signal f) q)
+  limits-accepted e = let (p, q) = passed few small ManyNodes LargeSignal e in closing_accepted f (leb-true _ _ p) (not-true (large_signal f) q)
 
   pub formula-room : (room : ℕ) → 3 * psl_rules.most ≤ room → formula_refusal room f ≡ formula_limits f
   unfolding formula_limits formula_refusal
   formula-room room h =
-      third few small (leb (3 * length (closing_nodes f)) room) (refused 19) (refused 20) (refused 23) (λ p q. le-leb (3 * length (closing_nodes f)) room (omega (arith, leb-true (length (closing_nodes f)) psl_rules.most p)))
+      third few small (leb (3 * length (closing_nodes f)) room) ManyNodes LargeSignal ListRoom (λ p q. le-leb (3 * length (closing_nodes f)) room (omega (arith, leb-true (length (closing_nodes f)) psl_rules.most p)))

@@ -3,7 +3,7 @@ use mathlib.Core.Path.{◌≡◌, refl, ap, sym, subst, ◌∙◌}
 use mathlib.Core.Bool.{Bool, true, false}
 use mathlib.Core.Option.{none, some}
 use mathlib.Core.List.{List, [], ◌∷◌, ◌++◌, append_assoc, append-nil, append_cancel_left}
-use Prim.Native.Nat.{ℕ, suc, ◌+◌, ◌*◌, ◌<◌, ◌≤◌}
+use Prim.Native.Nat.{ℕ, suc, ◌*◌, ◌<◌, ◌≤◌}
 use native.Mathlib.Omega.{arith}
 use borrow.Author.Tests.{lt-leb, le-leb}
 use lib.ListN.{length, drop}
@@ -12,7 +12,10 @@ use lib.Dec.{leb}
 use Rattle.table.specs.Node.{numbers_of}
 use Rattle.table.proofs.NodeLaw.{length-numbers}
 use Rattle.logic.specs.Formula.{BoolExpr, btrue, var, bnot, band, Formula, weak, strong, fnot, fand, next, until, abort}
-use Rattle.trace.specs.Refusal.{refused}
+use Rattle.std.specs.Prelude.{Result, Ok, Err}
+use Rattle.trace.specs.declared.refusal.Refusal.{Refusal}
+use Rattle.trace.specs.declared.refusal.Refusal.TheVariants.{LongLine, Shape, ManyNodes, LargeSignal, ListRoom}
+use Rattle.text.specs.declared.scan.Fault.{Fault}
 use Rattle.psl.specs.Check.{psl_rules}
 use Rattle.text.specs.Text.{text}
 use Rattle.formula_lines.specs.Spelling.{spell, formula_line}
@@ -20,13 +23,11 @@ use Rattle.psl.specs.Closing.{closing_nodes, large_signal_b, large_signal}
 use Rattle.text.specs.Limits.{most_bytes}
 use Rattle.text.specs.Reading.{long, breaks, spells}
 use Rattle.formula_lines.specs.FormulaAnswer.{formula_limits, formula_refusal, FormulaAnswer}
-use Rattle.text.specs.Inner.Places.{byte_at, Stands, Agree, Begins, Stops, StopsLine}
+use Rattle.text.specs.Inner.Places.{Stands, Agree, Begins, Stops, StopsLine, Only}
 use Rattle.formula_lines.specs.Inner.Form.{Form, Sorted, bytes, closed, wide}
 use Rattle.formula_lines.specs.Inner.Reader.{FormOf, with_nodes, FormStands, SpellsFormula, WholeStands, WholeRead}
-use Rattle.formula_lines.specs.declared.FormulaLine.TheVariants.{Nodes, Refused}
 use Rattle.formula_lines.specs.declared.Read.{Read}
-use Rattle.formula_lines.specs.declared.Read.TheVariants.{Found, FaultAt}
-use Rattle.text.proofs.PlaceLaw.{agree_self, stands_one, stands_join, stops_here, halts-first, begins-first, halts-after, stops_line, Nothing, stops_end}
+use Rattle.text.proofs.PlaceLaw.{agree_self, stands_join, halts-first, begins-first, halts-after, stops_line, Nothing, stops_end}
 use Rattle.text.proofs.ReadingLaw.{breaks-at, front-sets}
 use Rattle.formula_lines.proofs.FormulaLaw.{bool_form, form, form-sorted, form-bytes, form-nodes, as_formula_lem, spell_unique, line_unique, formula_injective}
 
@@ -55,8 +56,8 @@ wide_large (abort f b) = rw (wide_large f, wide_bool b)
 abbrev Rest : List ℕ → Type 0
 Rest w = (f : Formula) × (w ≡ spell f ++ (41 ∷ []))
 
-abbrev Psl : List ℕ → Type 0
-Psl s = Stands (text "(psl ") s 0 5
+abbrev Psl : List ℕ → ℕ → Type 0
+Psl s = Stands (text "(psl ") s 0
 
 pub not-psl : {s : List ℕ} {p : ℕ} → Stops (λ w. w ≡ text "(psl ") s 0 p → StopsLine SpellsFormula s 0 p
 not-psl a =
@@ -66,8 +67,8 @@ not-psl a =
     some : Formula
     some = weak btrue
 
-module _ {s : List ℕ} (o : Psl s) where
-  pub no-form : {p : ℕ} → Stops (FormOf 1) s 5 p → StopsLine SpellsFormula s 0 p
+module _ {s : List ℕ} {start : ℕ} (o : Psl s start) where
+  pub no-form : {p : ℕ} → Stops (FormOf 1) s start p → StopsLine SpellsFormula s 0 p
   no-form {p} a = halts-after o (stops_line (halts-first {L = Rest} a inc (λ s' g. begins-first dec))) (λ w (f, e). (f, ap (λ (x : List ℕ). text "(psl " ++ x) e)) rest
     where
       inc : (w : List ℕ) → FormOf 1 w → (x : List ℕ) × Rest (w ++ x)
@@ -78,88 +79,87 @@ module _ {s : List ℕ} (o : Psl s) where
       dec : (w : List ℕ) → Rest w → Begins (FormOf 1) w
       dec w (f, e) = (spell f, 41 ∷ [], (form f, form-sorted f, sym (form-bytes f)), e)
 
-      rest : (s' : List ℕ) → Agree (suc p) s s' → SpellsFormula (text "(psl " ++ drop 5 s') → Rest (drop 5 s')
+      rest : (s' : List ℕ) → Agree (suc p) s s' → SpellsFormula (text "(psl " ++ drop start s') → Rest (drop start s')
       rest s' g (f, e) = (f, append_cancel_left (text "(psl ") _ _ e)
 
-  module _ {f : Form} (sf : Sorted 1 f) {next nodes : ℕ} {large : Bool} {l l' : List ℕ} (a : FormStands f s 5 0 next nodes large l l') where
+  module _ {f : Form} (sf : Sorted 1 f) {next nodes : ℕ} {large : Bool} {l l' : List ℕ} (a : FormStands f s start 0 next nodes large l l') where
     abbrev g : Formula
     g = (as_formula_lem f sf).0
 
     same : form g ≡ f
     same = (as_formula_lem f sf).1
 
-    spelled : Stands (spell g) s 5 next
-    spelled = subst (λ (w : List ℕ). Stands w s 5 next) (ap bytes (sym same) ∙ form-bytes g) a.stands
+    spelled : Stands (spell g) s start next
+    spelled = subst (λ (w : List ℕ). Stands w s start next) (ap bytes (sym same) ∙ form-bytes g) a.stands
 
-    pub not-closed : (byte_at s next ≡ 41 → ⊥) → StopsLine SpellsFormula s 0 next
-    not-closed z =
-        halts-after (stands_join o spelled) (stops_here {L = λ w. w ≡ 41 ∷ []} 41 a.stands.within z (λ w e. ([], e)) (41 ∷ []) refl)
-        (λ w e. (g, ap (λ (x : List ℕ). text "(psl " ++ (spell g ++ x)) e)) dec
+    pub not-closed : {p : ℕ} → Stops (Only 41) s next p → StopsLine SpellsFormula s 0 p
+    not-closed {p} z = halts-after (stands_join o spelled) z (λ w e. (g, ap (λ (x : List ℕ). text "(psl " ++ (spell g ++ x)) e)) dec
       where
-        dec : (s' : List ℕ) → Agree (suc next) s s' → SpellsFormula (text "(psl " ++ spell g ++ drop next s') → Begins (λ w. w ≡ 41 ∷ []) (drop next s')
+        dec : (s' : List ℕ) → Agree (suc p) s s' → SpellsFormula (text "(psl " ++ spell g ++ drop next s') → Begins (Only 41) (drop next s')
         dec s' i (h, e) = (41 ∷ [], [], refl, (spell_unique g h (drop next s') (41 ∷ []) (append_cancel_left (text "(psl ") _ _ e)).1)
 
-    module _ (e : byte_at s next ≡ 41) (i : next < length s) where
-      line : Stands (formula_line g) s 0 (next + 1)
-      line = subst (λ (w : List ℕ). Stands w s 0 (next + 1)) (simp append_assoc) (stands_join (stands_join o spelled) (stands_one 41 e i))
+    module _ {last : ℕ} (e : Stands (41 ∷ []) s next last) where
+      line : Stands (formula_line g) s 0 last
+      line = subst (λ (w : List ℕ). Stands w s 0 last) (simp append_assoc) (stands_join (stands_join o spelled) e)
 
-      pub tail_left : (next + 1 ≡ length s → ⊥) → StopsLine SpellsFormula s 0 (next + 1)
-      tail_left z = halts-after line (stops_end s (next + 1) (omega arith)) (λ w d. (g, ap (λ (x : List ℕ). formula_line g ++ x) d ∙ append-nil (formula_line g))) dec
+      pub tail_left : last < length s → StopsLine SpellsFormula s 0 last
+      tail_left z = halts-after line (stops_end s last z) (λ w d. (g, ap (λ (x : List ℕ). formula_line g ++ x) d ∙ append-nil (formula_line g))) dec
         where
-          dec : (s' : List ℕ) → Agree (suc (next + 1)) s s' → SpellsFormula (formula_line g ++ drop (next + 1) s') → Nothing (drop (next + 1) s')
-          dec s' j (h, d) = (line_unique g h (drop (next + 1) s') [] (d ∙ sym (append-nil (formula_line h)))).1
+          dec : (s' : List ℕ) → Agree (suc last) s s' → SpellsFormula (formula_line g ++ drop last s') → Nothing (drop last s')
+          dec s' j (h, d) = (line_unique g h (drop last s') [] (d ∙ sym (append-nil (formula_line h)))).1
 
-      pub line_read : next + 1 ≡ length s → (f : Formula) × WholeStands f s nodes large l l'
-      line_read z = (
-        g,
-        record {
-          is = line.is ∙ ap (λ (x : List ℕ). formula_line g ++ x) (ap (λ (j : ℕ). drop j s) z ∙ drop-length s) ∙ append-nil (formula_line g);
-          counted = sym (a.counted [] refl) ∙ ap length nodes_of_lem;
-          few = omega (arith, a.few);
-          signals = a.signals ∙ ap wide (sym same) ∙ wide_large g;
-          written = λ x. a.written x l [] refl refl ∙ ap (with_nodes l) nodes_of_lem;
-        },
-      )
+      pub line_read : length s ≤ last → (f : Formula) × WholeStands f s nodes large l l'
+      line_read z =
+          let whole : last ≡ length s = omega (arith, e.within) in (
+            g,
+            record {
+              is = line.is ∙ ap (λ (x : List ℕ). formula_line g ++ x) (ap (λ (j : ℕ). drop j s) whole ∙ drop-length s) ∙ append-nil (formula_line g);
+              counted = sym (a.counted [] refl) ∙ ap length nodes_of_lem;
+              few = omega (arith, a.few, e.after);
+              signals = a.signals ∙ ap wide (sym same) ∙ wide_large g;
+              written = λ x. a.written x l [] refl refl ∙ ap (with_nodes l) nodes_of_lem;
+            },
+          )
         where
           nodes_of_lem : closed f [] ≡ closing_nodes g
           nodes_of_lem = ap (λ (x : Form). closed x []) (sym same) ∙ form-nodes g []
 
 -- ── The answer ──
 
-pub too_long : (s l : List ℕ) → most_bytes < length s → FormulaAnswer s l (Refused (refused 17)) l
+pub too_long : (s l : List ℕ) → most_bytes < length s → FormulaAnswer s l (Err LongLine) l
 too_long s l h = (record { reading = long h; reason = refl }, refl)
 
-pub no-formula : (s l : List ℕ) {p : ℕ} → length s ≤ most_bytes → StopsLine SpellsFormula s 0 p → FormulaAnswer s l (Refused (refused 18)) l
+pub no-formula : (s l : List ℕ) {p : ℕ} → length s ≤ most_bytes → StopsLine SpellsFormula s 0 p → FormulaAnswer s l (Err Shape) l
 no-formula s l {p} h a = (record { reading = breaks h p (breaks-at (λ w x. x) (λ f. (f, refl)) a); reason = refl }, refl)
 
 -- The line spells f; a and b are the list of the reading without room.
 module _ {s : List ℕ} (l : List ℕ) {f : Formula} {nodes : ℕ} {large : Bool} {a b : List ℕ} (h : length s ≤ most_bytes) (x : WholeStands f s nodes large a b) where
-  refuses : (e : ℕ) → formula_refusal (length l) f ≡ some (refused e) → FormulaAnswer s l (Refused (refused e)) l
+  refuses : (e : Refusal) → formula_refusal (length l) f ≡ some e → FormulaAnswer s l (Err e) l
   refuses e d = (record { reading = spells h f x.is; reason = d }, refl)
 
-  pub many_nodes : psl_rules.most < nodes → FormulaAnswer s l (Refused (refused 19)) l
+  pub many_nodes : psl_rules.most < nodes → FormulaAnswer s l (Err ManyNodes) l
   unfolding formula_limits formula_refusal
-  many_nodes i = refuses 19 (rw (lt-leb (length (closing_nodes f)) psl_rules.most (omega (arith, x.counted))))
+  many_nodes i = refuses ManyNodes (rw (lt-leb (length (closing_nodes f)) psl_rules.most (omega (arith, x.counted))))
 
   module _ (i : nodes ≤ psl_rules.most) where
     few : leb (length (closing_nodes f)) psl_rules.most ≡ true
     few = le-leb (length (closing_nodes f)) psl_rules.most (omega (arith, x.counted))
 
-    pub large_signal_lem : large ≡ true → FormulaAnswer s l (Refused (refused 20)) l
+    pub large_signal_lem : large ≡ true → FormulaAnswer s l (Err LargeSignal) l
     unfolding formula_limits formula_refusal
-    large_signal_lem j = refuses 20 (rw (few, sym x.signals ∙ j))
+    large_signal_lem j = refuses LargeSignal (rw (few, sym x.signals ∙ j))
 
     module _ (j : large ≡ false) where
-      pub no_room : length l < 3 * nodes → FormulaAnswer s l (Refused (refused 23)) l
+      pub no_room : length l < 3 * nodes → FormulaAnswer s l (Err ListRoom) l
       unfolding formula_limits formula_refusal
-      no_room k = refuses 23 (rw (few, sym x.signals ∙ j, lt-leb (3 * length (closing_nodes f)) (length l) (omega (arith, x.counted))))
+      no_room k = refuses ListRoom (rw (few, sym x.signals ∙ j, lt-leb (3 * length (closing_nodes f)) (length l) (omega (arith, x.counted))))
 
       module _ (k : 3 * nodes ≤ length l) where
         room : formula_refusal (length l) f ≡ none
         unfolding formula_limits formula_refusal
         room = rw (few, sym x.signals ∙ j, le-leb (3 * length (closing_nodes f)) (length l) (omega (arith, x.counted)))
 
-        pub table-read : (m : List ℕ) (r : Read) → WholeRead s l m r → FormulaAnswer s l (Nodes nodes) m
+        pub table-read : (m : List ℕ) (r : Result Read Fault) → WholeRead s l m r → FormulaAnswer s l (Ok nodes) m
         table-read m r y = (
           f,
           record { short = h; is = x.is; within = room },
@@ -167,9 +167,9 @@ module _ {s : List ℕ} (l : List ℕ) {f : Formula} {nodes : ℕ} {large : Bool
           go r y ∙ front-sets (numbers_of (closing_nodes f)) l (omega (arith, x.counted, length-numbers (closing_nodes f))),
         )
           where
-            go : (r : Read) → WholeRead s l m r → m ≡ with_nodes l (closing_nodes f)
-            go (FaultAt p) z = absurd (z.none s (agree_self (suc p) s) (f, x.is))
-            go (Found end n w) (g, z) =
+            go : (r : Result Read Fault) → WholeRead s l m r → m ≡ with_nodes l (closing_nodes f)
+            go (Err u) z = absurd (z.none s (agree_self (suc u.0) s) (f, x.is))
+            go (Ok q) (g, z) =
                 let d = formula_injective f g (sym x.is ∙ z.is) in
                 z.written (z.signals ∙ ap large_signal (sym d) ∙ sym x.signals ∙ j)
                 ∙ ap (λ (u : Formula). with_nodes l (closing_nodes u)) (sym d)

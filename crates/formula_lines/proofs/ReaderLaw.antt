@@ -1,26 +1,27 @@
 -- What each way out of the two readers of forms, which call each other, gives.
 use mathlib.Core.Path.{◌≡◌, refl, ap, sym, subst, ◌∙◌}
 use mathlib.Core.Logic.{◌⊎◌, inl, inr}
-use mathlib.Core.Bool.{Bool, true, false, ◌||◌}
+use mathlib.Core.Bool.{Bool, true, false, not, ◌||◌}
 use mathlib.Core.List.{List, [], ◌∷◌, ◌++◌, append_assoc, append-nil, head-eq_of_cons-eq, tail-eq_of_cons-eq}
-use Prim.Native.Nat.{ℕ, zero, suc, ◌+◌, ◌*◌, ◌-◌, ◌<◌, ◌≤◌}
+use Prim.Native.Nat.{ℕ, zero, suc, ◌+◌, ◌*◌, ◌-◌, ◌≤◌}
 use native.Mathlib.Omega.{arith}
 use borrow.Author.Tests.{le-leb, lt-leb}
 use lib.ListN.{length, drop}
 use lib.Seq.{sets}
 use lib.Dec.{T, leb}
+use Rattle.std.specs.Prelude.{Option, Some, None, unwrap_or, is_some}
 use Rattle.logic.specs.Letter.{signals}
 use Rattle.table.specs.Node.{Node, node, numbers_of, ◌▸◌, last}
 use Rattle.table.proofs.NodeLaw.{length-numbers, length_more}
 use Rattle.text.specs.Text.{text}
 use Rattle.text.specs.Spelling.{digits}
-use Rattle.text.specs.Inner.Places.{byte_at, Stands, Agree, Language, Begins, Halts, Stops}
+use Rattle.text.specs.Inner.Places.{Stands, Agree, Language, Begins, Halts, Stops, Only}
 use Rattle.text.specs.Inner.Number.{Numeral, Numbered}
-use Rattle.text.specs.Inner.Scan.{NumberStands}
+use Rattle.text.specs.Inner.Scan.{Counts, NumberStands}
 use Rattle.formula_lines.specs.Inner.Form.{Form, truth, signal, one, two, keyword, arity, left_sort, right_sort, kinds, Sorted, OfKind, bytes, inner, closed, wide}
 use Rattle.text.specs.Inner.Words.{elem}
-use Rattle.formula_lines.specs.Inner.Reader.{KeywordOf, InBrackets, FormOf, OperandsOf, with_nodes, FormStands, Ended, OperandsStand}
-use Rattle.text.proofs.PlaceLaw.{agree-byte, byte-drop, stands_one, stands_join, stops_here, halts-first, begins-first, halts-after}
+use Rattle.formula_lines.specs.Inner.Reader.{KeywordOf, NoneOf, InBrackets, FormOf, OperandsOf, with_nodes, FormStands, Ended, OperandsStand}
+use Rattle.text.proofs.PlaceLaw.{agree_less, stands_join, stands_end, stops_first, halts-first, begins-first, halts-after}
 use Rattle.text.proofs.ScanLaw.{no-digit-agree}
 use Rattle.table.proofs.StoreLaw.{sets-sets, numbers_more}
 use Rattle.formula_lines.proofs.FormLaw.{View, view, kind_fact, kind-sorted, kind-bytes, none_of, one_of, two_of, form_unique, operands_unique, sample, sample_sorted, sample_open, kind_sample, open_bytes, word-kind, var-arity}
@@ -37,10 +38,10 @@ some-form so = (sample so, sample_sorted so, refl)
 
 -- ── `true` ──
 
-module _ (s : List ℕ) (at : ℕ) (z : byte_at s at ≡ 40 → ⊥) where
+module _ {s : List ℕ} {at : ℕ} (z : Stops (Only 40) s at at) where
   -- Where no Boolean is due, every form opens with a bracket.
-  pub true-not_due : (so : ℕ) → at ≤ length s → (so ≡ 0 → ⊥) → Stops (FormOf so) s at at
-  true-not_due so h n = stops_here 40 h z heads (bytes (sample so)) (some-form so)
+  pub true-not_due : (so : ℕ) → (so ≡ 0 → ⊥) → Stops (FormOf so) s at at
+  true-not_due so n = stops_first z heads (bytes (sample so)) (some-form so)
     where
       heads : (w : List ℕ) → FormOf so w → (x : List ℕ) × (w ≡ 40 ∷ x)
       heads w (f, sf, e) = go (view f so sf)
@@ -60,14 +61,14 @@ module _ (s : List ℕ) (at : ℕ) (z : byte_at s at ≡ 40 → ⊥) where
           go (inl (y, _)) = (w, t, d ∙ ap bytes y, i)
           go (inr b) =
               absurd
-              (z
-              (agree-byte at (omega (arith, a.after)) g
-              ∙ byte-drop s' at 40 _ (i ∙ ap (λ (x : List ℕ). x ++ t) d ∙ open_bytes f b.kind t b.is)))
+              (z.none s' (agree_less (omega (arith, a.after)) g)
+              (40 ∷ [], keyword b.kind ++ (inner f ++ (41 ∷ t)), refl, i ∙ ap (λ (x : List ℕ). x ++ t) d ∙ open_bytes f b.kind t b.is))
 
-pub true-stands : (s : List ℕ) (at n p : ℕ) (l l' : List ℕ) → n ≤ at → Stands (text "true") s at p → p ≡ at + 4
+pub true-stands : (s : List ℕ) (at n p : ℕ) (l l' : List ℕ) → n ≤ at → Stands (text "true") s at p
     → l' ≡ sets l (3 * n) (0 ∷ 0 ∷ 0 ∷ []) → FormStands truth s at n p (n + 1) false l l'
 unfolding bytes closed wide
-true-stands s at n p l l' h a e d =
+true-stands s at n p l l' h a d =
+    let e : p ≡ at + 4 = stands_end a in
     record {
       stands = a;
       more = omega arith;
@@ -111,20 +112,16 @@ module _ (s : List ℕ) (at n next v : ℕ) (l : List ℕ) (h : n ≤ at) (a : N
             ∙ ap (λ (i : ℕ). sets (with_nodes l₀ ns) (3 * n) (1 ∷ i ∷ 0 ∷ [])) (c x) ∙ with_nodes-more l₀ ns n 1 v 0 e;
       }
 
-  pub signal_small : v < signals → (f : Form) × OfKind 1 f × OperandsStand f s at n next n 1 v 0 false l l
-  signal_small g = (signal v, refl, signal-stands v false (sym (lt-leb signals v (omega arith))) (λ _. refl))
-
-  pub signal_large : signals ≤ v → (f : Form) × OfKind 1 f × OperandsStand f s at n next n 1 0 0 true l l
-  signal_large g =
-      (signal v, refl, signal-stands 0 true (sym (le-leb signals v (omega arith))) (λ e. let z : ◌≡◌ {A = ℕ} 0 1 = cc e in absurd (omega arith)))
+  pub signal_read : (m : Option ℕ) (large : Bool) → is_some m ≡ not large → Counts (signals - 1) v m
+      → (f : Form) × OfKind 1 f × OperandsStand f s at n next n 1 (unwrap_or m 0) 0 large l l
+  signal_read (Some w) false e g = (signal v, refl, signal-stands w false (sym (lt-leb signals v (omega (arith, g.0, g.1)))) (λ _. sym g.0))
+  signal_read (Some w) true e g = cc
+  signal_read None true e g = (signal v, refl, signal-stands 0 true (sym (le-leb signals v (omega (arith, g)))) (λ i. cc))
+  signal_read None false e g = cc
 
 -- ── A form in brackets ──
 
-abbrev pub Open : List ℕ → ℕ → Type 0
-Open s at = Stands (40 ∷ []) s at (at + 1)
-
-pub no_word : {s : List ℕ} {at : ℕ} (so : ℕ) {p : ℕ} → Open s at → Halts (λ w. (w ≡ []) ⊎ KeywordOf (kinds so) w) (Begins (KeywordOf (kinds so))) s (at + 1) p
-    → Stops (FormOf so) s at p
+pub no_word : {s : List ℕ} {at mid : ℕ} (so : ℕ) {p : ℕ} → Stands (40 ∷ []) s at mid → NoneOf (kinds so) s mid p → Stops (FormOf so) s at p
 no_word so o a = halts-after o (halts-first {L = λ w. FormOf so (40 ∷ w)} {R = λ x. Begins (FormOf so) (40 ∷ x)} a inc (λ s' g. dec)) (λ w l. l) (λ s' g b. b)
   where
     inc : (w : List ℕ) → (w ≡ []) ⊎ KeywordOf (kinds so) w → (x : List ℕ) × FormOf so (40 ∷ (w ++ x))
@@ -149,9 +146,10 @@ no_word so o a = halts-after o (halts-first {L = λ w. FormOf so (40 ∷ w)} {R 
 
 -- The bracket and the keyword of kind k have been read.
 pub record Entered (s : List ℕ) (at so k next : ℕ) : Type 0 where
-  pub opened : Open s at
+  pub mid : ℕ
+  pub opened : Stands (40 ∷ []) s at mid
   pub member : T (elem k (kinds so))
-  pub named : Stands (keyword k) s (at + 1) next
+  pub named : Stands (keyword k) s mid next
 
 module _ {s : List ℕ} {at so k next : ℕ} (E : Entered s at so k next) where
   m : T (elem k (kinds so))
@@ -170,37 +168,34 @@ module _ {s : List ℕ} {at so k next : ℕ} (E : Entered s at so k next) where
 
   module _ {f : Form} (h : OfKind k f) {n end nodes left right : ℕ} {large : Bool} {l l' : List ℕ}
       (b : OperandsStand f s next n end nodes k left right large l l') where
-    pub no_bracket : (byte_at s end ≡ 41 → ⊥) → Stops (FormOf so) s at end
-    no_bracket z = no_operands (halts-after b.stands shut inc dec)
+    pub no_bracket : {p : ℕ} → Stops (Only 41) s end p → Stops (FormOf so) s at p
+    no_bracket {p} shut = no_operands (halts-after b.stands shut inc dec)
       where
-        shut : Stops (λ w. w ≡ 41 ∷ []) s end end
-        shut = stops_here 41 b.stands.within z (λ w e. ([], e)) (41 ∷ []) refl
-
         inc : (w : List ℕ) → w ≡ 41 ∷ [] → OperandsOf k (inner f ++ w)
         inc w e = (f, h, ap (λ (y : List ℕ). inner f ++ y) e)
 
-        ended : (f : Form) (s' : List ℕ) → Agree (suc end) s s' → Ended f (drop end s) → Ended f (drop end s')
+        ended : (f : Form) (s' : List ℕ) → Agree (suc p) s s' → Ended f (drop end s) → Ended f (drop end s')
         ended truth s' g e = tt
-        ended (signal v) s' g e = no-digit-agree end (omega arith) g e
+        ended (signal v) s' g e = no-digit-agree end (omega (arith, shut.after)) g e
         ended (one i x) s' g e = tt
         ended (two i x y) s' g e = tt
 
-        dec : (s' : List ℕ) → Agree (suc end) s s' → Begins (OperandsOf k) (inner f ++ drop end s') → Begins (λ w. w ≡ 41 ∷ []) (drop end s')
+        dec : (s' : List ℕ) → Agree (suc p) s s' → Begins (OperandsOf k) (inner f ++ drop end s') → Begins (Only 41) (drop end s')
         dec s' g (w, t, (x, i, e), d) =
             let (_, u) =
             operands_unique f x k (drop end s') t h i (ended f s' g b.ended)
             (d ∙ ap (λ (y : List ℕ). y ++ t) e ∙ append_assoc (inner x) (41 ∷ []) t) in
             (41 ∷ [], t, refl, u)
 
-    pub closes : byte_at s end ≡ 41 → end < length s → (l'' : List ℕ) → l'' ≡ sets l' (3 * nodes) (k ∷ left ∷ right ∷ [])
-        → (f : Form) × Sorted so f × FormStands f s at n (end + 1) (nodes + 1) large l l''
-    closes e i l'' w =
-        let q = stands_one 41 e i in (
+    pub closes : {last : ℕ} → Stands (41 ∷ []) s end last → (l'' : List ℕ) → l'' ≡ sets l' (3 * nodes) (k ∷ left ∷ right ∷ [])
+        → (f : Form) × Sorted so f × FormStands f s at n last (nodes + 1) large l l''
+    closes {last} q l'' w =
+        let e : last ≡ end + 1 = stands_end q in (
           f,
           kind-sorted f k so m h,
           record {
-            stands = subst (λ (y : List ℕ). Stands y s at (end + 1)) (simp append_assoc (sym (kind-bytes f k h))) (stands_join (stands_join (stands_join E.opened E.named) b.stands) q);
-            more = omega (arith, b.more, E.named.after);
+            stands = subst (λ (y : List ℕ). Stands y s at last) (simp append_assoc (sym (kind-bytes f k h))) (stands_join (stands_join (stands_join E.opened E.named) b.stands) q);
+            more = omega (arith, b.more, E.opened.after, E.named.after);
             grows = omega (arith, b.grows);
             few = omega (arith, b.few);
             counted = b.counted;
@@ -281,13 +276,13 @@ module _ {s : List ℕ} {at : ℕ} (k : ℕ) where
               let (_, c) = form_unique f y (left_sort k) (drop next s') (32 ∷ (bytes z ++ (41 ∷ t))) sf sy r in
               (32 ∷ (bytes z ++ (41 ∷ [])), t, (z, sz, refl), c ∙ ap (λ (q : List ℕ). 32 ∷ q) (sym (append_assoc (bytes z) (41 ∷ []) t)))
 
-      pub no-space : (byte_at s next ≡ 32 → ⊥) → Stops (OperandsOf k) s at next
+      pub no-space : {p : ℕ} → Stops (Only 32) s next p → Stops (OperandsOf k) s at p
       no-space z =
           lift_second
-          (stops_here 32 a.stands.within z (λ w (g, _, d). (bytes g ++ (41 ∷ []), d)) _ (sample (right_sort k), sample_sorted (right_sort k), refl))
+          (stops_first z (λ w (g, _, d). (bytes g ++ (41 ∷ []), d)) _ (sample (right_sort k), sample_sorted (right_sort k), refl))
 
-      module _ (o : Stands (32 ∷ []) s next (next + 1)) where
-        pub second_no : {p : ℕ} → Stops (FormOf (right_sort k)) s (next + 1) p → Stops (OperandsOf k) s at p
+      module _ {mid : ℕ} (o : Stands (32 ∷ []) s next mid) where
+        pub second_no : {p : ℕ} → Stops (FormOf (right_sort k)) s mid p → Stops (OperandsOf k) s at p
         second_no b = lift_second (halts-after o (halts-first {L = λ w. Second k (32 ∷ w)} {R = λ x. Begins (Second k) (32 ∷ x)} b inc (λ s' g. dec)) (λ w c. c) (λ s' g c. c))
           where
             inc : (w : List ℕ) → FormOf (right_sort k) w → (x : List ℕ) × Second k (32 ∷ (w ++ x))
@@ -298,7 +293,7 @@ module _ {s : List ℕ} {at : ℕ} (k : ℕ) where
                 (bytes g, 41 ∷ t, (g, sg, refl), tail-eq_of_cons-eq (u ∙ ap (λ (y : List ℕ). y ++ t) d) ∙ append_assoc (bytes g) (41 ∷ []) t)
 
         pub two_stand : {g : Form} → Sorted (right_sort k) g → {end all : ℕ} {more : Bool} {l'' : List ℕ}
-            → FormStands g s (next + 1) nodes end all more l' l'' → (b : Bool) → b ≡ (large || more)
+            → FormStands g s mid nodes end all more l' l'' → (b : Bool) → b ≡ (large || more)
             → (x : Form) × OfKind k x × OperandsStand x s at n end all k (nodes - 1) (all - 1) b l l''
         unfolding closed wide
         two_stand {g} sg {end} {all} {more} {l''} c b u = (
@@ -307,7 +302,7 @@ module _ {s : List ℕ} {at : ℕ} (k : ℕ) where
           record {
             stands = stands_join a.stands (stands_join o c.stands);
             ended = tt;
-            more = omega (arith, a.more, c.more);
+            more = omega (arith, a.more, o.after, c.more);
             grows = omega (arith, a.grows, c.grows);
             few = c.few;
             counted = λ ns i. length_more (closed g (closed f ns)) _ ∙ ap (λ (m : ℕ). m + 1) (c.counted (closed f ns) (a.counted ns i));

@@ -2,166 +2,141 @@
 // each of the loop, a node line its bytes; a refusal is 10,000 and its number.
 #![tactic(auto)]
 
-ghost use Rattle.std.specs.Prelude.{◌≤◌, length};
-
-use formula_lines::{FormulaLine, read_formula};
-use node_lines::{NodeLine, write_node};
+use formula_lines::read_formula;
+use node_lines::write_node;
 use report::{say, show};
+use std::alloc::{AllocError, Global};
 use std::io;
-use table::NodeNo;
-use trace_lines::{TraceLine, read_trace};
+use table::{Node, NodeNo};
+use trace::Refusal;
+use trace_lines::read_trace;
+
+// What is printed of an answer.
+fn code(answer: Result<u64, Refusal>) -> u64 {
+    match answer {
+        Ok(n) => n,
+        Err(x) => 10000 + u64::from(u8::from(x)),
+    }
+}
 
 fn formula(line: &[u8], out: &mut [u16]) -> u64 {
-    match read_formula(line, out) {
-        FormulaLine::Nodes(n) => n as u64,
-        FormulaLine::Refused(x) => 10000 + (x.0 as u64),
-    }
+    code(read_formula(line, out).map(|n| n as u64))
 }
 
 fn trace_line(line: &[u8], lead: &mut [u32], cycle: &mut [u32]) -> u64 {
-    match read_trace(line, lead, cycle) {
-        TraceLine::Letters { lead: a, cycle: b } => 100 * (a as u64 % 100) + (b as u64 % 100),
-        TraceLine::Refused(x) => 10000 + (x.0 as u64),
-    }
+    code(read_trace(line, lead, cycle).map(|n| 100 * (n.lead as u64 % 100)
+        + (n.cycle as u64 % 100)))
 }
 
 fn node_line(no: u16, kind: u16, left: u16, right: u16, out: &mut [u8]) -> u64 {
-    match write_node(NodeNo(no), kind, left, right, out) {
-        NodeLine::Bytes(n) => n as u64,
-        NodeLine::Refused(x) => 10000 + (x.0 as u64),
-    }
-}
-
-// Where the line that begins at a place ends.
-fn line_end(text: &[u8], at: usize) -> usize
-    requires { at ≤ length text.now }
-    ensures { (at ≤ result) × (result ≤ length text.now) }
-{
-    let mut i = at;
-    while i < text.len() {
-        if text[i] == 10 {
-            return i;
-        }
-        i += 1;
-    }
-    i
+    code(write_node(NodeNo(no), Node { kind, left, right }, out).map(|n| n as u64))
 }
 
 // Each line of a text, as a formula line.
-fn formulas(rt: &impl Print, text: &[u8]) -> io::Result<()> {
+fn formulas(rt: &impl Print, text: &str) -> io::Result<()> {
     let mut out = [0u16; 36];
-    let mut at: usize = 0;
-    while at < text.len() {
-        let end = line_end(text, at);
-        say(rt, &text[at..end], formula(&text[at..end], &mut out))?;
-        at = end + 1;
+    for line in text.split_terminator('\n') {
+        say(rt, line, formula(line.as_bytes(), &mut out))?;
     }
     Ok(())
 }
 
 // Each line of a text, as a trace line.
-fn traces(rt: &impl Print, text: &[u8]) -> io::Result<()> {
+fn traces(rt: &impl Print, text: &str) -> io::Result<()> {
     let mut lead = [0u32; 4];
     let mut cycle = [0u32; 4];
-    let mut at: usize = 0;
-    while at < text.len() {
-        let end = line_end(text, at);
-        say(
-            rt,
-            &text[at..end],
-            trace_line(&text[at..end], &mut lead, &mut cycle),
-        )?;
-        at = end + 1;
+    for line in text.split_terminator('\n') {
+        say(rt, line, trace_line(line.as_bytes(), &mut lead, &mut cycle))?;
     }
     Ok(())
 }
 
-// Bytes added to a line where it has room; how many it has then.
-fn add(line: &mut [u8], at: usize, w: &[u8]) -> usize
-    requires { at ≤ length line.old }
-    ensures { result ≤ length line.new }
-{
-    if line.len() - at < w.len() {
-        return at;
+// A text so many times behind a line.
+fn add_often(line: &mut String, text: &str, times: usize) -> Result<(), AllocError> {
+    for _ in 0..times {
+        line.push_str(text)?;
     }
-    let mut i: usize = 0;
-    while i < w.len() {
-        line[at + i] = w[i];
-        i += 1;
-    }
-    at + i
-}
-
-fn add_often(line: &mut [u8], at: usize, w: &[u8], times: usize) -> usize
-    requires { at ≤ length line.old }
-    ensures { result ≤ length line.new }
-{
-    let mut n = at;
-    let mut i: usize = 0;
-    while i < times {
-        n = add(line, n, w);
-        i += 1;
-    }
-    n
+    Ok(())
 }
 
 // `(psl `, so many `(not `, what they stand over, and so many closing brackets.
 fn nested(
     rt: &impl Print,
-    name: &[u8],
+    alloc: Global,
+    name: &str,
     nots: usize,
-    inner: &[u8],
+    inner: &str,
     closed: usize,
 ) -> io::Result<()> {
-    let mut line = [0u8; 16400];
     let mut out = [0u16; 3072];
-    let a = add(&mut line, 0, b"(psl ");
-    let b = add_often(&mut line, a, b"(not ", nots);
-    let c = add(&mut line, b, inner);
-    let n = add_often(&mut line, c, b")", closed);
-    say(rt, name, formula(&line[0..n], &mut out))
+    let mut line = String::new(alloc);
+    line.push_str("(psl ")?;
+    add_often(&mut line, "(not ", nots)?;
+    line.push_str(inner)?;
+    add_often(&mut line, ")", closed)?;
+    say(rt, name, formula(line.as_bytes(), &mut out))
 }
 
 // A signal of so many digits.
-fn many_digits(rt: &impl Print, name: &[u8], digits: usize) -> io::Result<()> {
-    let mut line = [0u8; 16400];
+fn many_digits(rt: &impl Print, alloc: Global, name: &str, digits: usize) -> io::Result<()> {
     let mut out = [0u16; 6];
-    let a = add(&mut line, 0, b"(psl (weak (var ");
-    let b = add_often(&mut line, a, b"1", digits);
-    let n = add(&mut line, b, b")))");
-    say(rt, name, formula(&line[0..n], &mut out))
+    let mut line = String::new(alloc);
+    line.push_str("(psl (weak (var ")?;
+    add_often(&mut line, "1", digits)?;
+    line.push_str(")))")?;
+    say(rt, name, formula(line.as_bytes(), &mut out))
 }
 
 // So many letters and one more in the lead-in, and one in the loop.
-fn many_letters(rt: &impl Print, name: &[u8], letters: usize, last: &[u8]) -> io::Result<()> {
-    let mut line = [0u8; 16400];
+fn many_letters(
+    rt: &impl Print,
+    alloc: Global,
+    name: &str,
+    letters: usize,
+    last: &str,
+) -> io::Result<()> {
     let mut lead = [0u32; 64];
     let mut cycle = [0u32; 1];
-    let a = add(&mut line, 0, b"(lasso (");
-    let b = add_often(&mut line, a, b"7 ", letters);
-    let c = add(&mut line, b, b"7) (");
-    let d = add(&mut line, c, last);
-    let n = add(&mut line, d, b"))");
-    say(rt, name, trace_line(&line[0..n], &mut lead, &mut cycle))
+    let mut line = String::new(alloc);
+    line.push_str("(lasso (")?;
+    add_often(&mut line, "7 ", letters)?;
+    line.push_str("7) (")?;
+    line.push_str(last)?;
+    line.push_str("))")?;
+    say(rt, name, trace_line(line.as_bytes(), &mut lead, &mut cycle))
 }
 
-fn borders(rt: &impl Print) -> io::Result<()> {
-    nested(rt, b"1024 nodes", 1022, b"(weak true)", 1023)?;
-    nested(rt, b"1025 nodes", 1023, b"(weak true)", 1024)?;
-    nested(rt, b"1025 nodes, signal 99", 1023, b"(weak (var 99))", 1024)?;
+fn borders(rt: &impl Print, alloc: Global) -> io::Result<()> {
+    nested(rt, alloc, "1024 nodes", 1022, "(weak true)", 1023)?;
+    nested(rt, alloc, "1025 nodes", 1023, "(weak true)", 1024)?;
     nested(
         rt,
-        b"2702 nodes, a bracket short",
+        alloc,
+        "1025 nodes, signal 99",
+        1023,
+        "(weak (var 99))",
+        1024,
+    )?;
+    nested(
+        rt,
+        alloc,
+        "2702 nodes, a bracket short",
         2700,
-        b"(weak true)",
+        "(weak true)",
         2700,
     )?;
-    nested(rt, b"cut short, 3275 deep", 3275, b"", 0)?;
-    many_digits(rt, b"16384 bytes", 16365)?;
-    many_digits(rt, b"16385 bytes", 16366)?;
-    many_letters(rt, b"64 letters", 62, b"4294967295")?;
-    many_letters(rt, b"65 letters", 63, b"4294967295")?;
-    many_letters(rt, b"65 letters, the last too large", 63, b"4294967296")
+    nested(rt, alloc, "cut short, 3275 deep", 3275, "", 0)?;
+    many_digits(rt, alloc, "16384 bytes", 16365)?;
+    many_digits(rt, alloc, "16385 bytes", 16366)?;
+    many_letters(rt, alloc, "64 letters", 62, "4294967295")?;
+    many_letters(rt, alloc, "65 letters", 63, "4294967295")?;
+    many_letters(
+        rt,
+        alloc,
+        "65 letters, the last too large",
+        63,
+        "4294967296",
+    )
 }
 
 // Own number, kind, left, right, and the answer.
@@ -194,10 +169,10 @@ fn node_cases(rt: &impl Print) -> io::Result<()> {
 // The line and the bytes after it, which stay; and a list that is one byte short, which stays whole.
 fn written(rt: &impl Print) -> io::Result<()> {
     let mut out = [46u8; 12];
-    say(rt, b"(0 true) in 12 bytes", node_line(0, 0, 0, 0, &mut out))?;
+    say(rt, "(0 true) in 12 bytes", node_line(0, 0, 0, 0, &mut out))?;
     rt.write_all(&out)?;
     let mut short = [46u8; 8];
-    say(rt, b" and in 8", node_line(0, 0, 0, 0, &mut short))?;
+    say(rt, " and in 8", node_line(0, 0, 0, 0, &mut short))?;
     rt.write_all(&short)?;
     rt.write_all(b"\n")
 }
@@ -207,26 +182,22 @@ fn stored(rt: &impl Print) -> io::Result<()> {
     let mut out = [9u16; 18];
     say(
         rt,
-        b"five nodes in 18",
+        "five nodes in 18",
         formula(b"(psl (abort (next (strong (var 1))) (var 0)))", &mut out),
     )?;
     show(rt, &out)?;
     let mut short = [9u16; 14];
     say(
         rt,
-        b"and in 14",
+        "and in 14",
         formula(b"(psl (abort (next (strong (var 1))) (var 0)))", &mut short),
     )?;
     show(rt, &short)?;
     say(
         rt,
-        b"signal 99 and no room",
+        "signal 99 and no room",
         formula(b"(psl (weak (var 99)))", &mut []),
     )
-}
-
-fn wide(x: u32) -> u64 {
-    x as u64
 }
 
 // Each list keeps what stands past its letters.
@@ -235,20 +206,20 @@ fn letters(rt: &impl Print) -> io::Result<()> {
     let mut cycle = [9u32; 2];
     say(
         rt,
-        b"(lasso (1) (2))",
+        "(lasso (1) (2))",
         trace_line(b"(lasso (1) (2))", &mut lead, &mut cycle),
     )?;
-    say(rt, b"lead-in", wide(lead[0]))?;
-    say(rt, b"past it", wide(lead[1]))?;
-    say(rt, b"loop", wide(cycle[0]))?;
-    say(rt, b"past it", wide(cycle[1]))
+    say(rt, "lead-in", u64::from(lead[0]))?;
+    say(rt, "past it", u64::from(lead[1]))?;
+    say(rt, "loop", u64::from(cycle[0]))?;
+    say(rt, "past it", u64::from(cycle[1]))
 }
 
 // One line a case.
 fn formula_cases(rt: &impl Print) -> io::Result<()> {
     formulas(
         rt,
-        b"(psl (weak true))
+        "(psl (weak true))
 (psl (abort (next (strong (var 1))) (var 0)))
 (psl (until (not (weak (bnot true))) (and (strong (band true (var 3))) (weak true))))
 (psl (weak (var 31)))
@@ -285,7 +256,7 @@ fn formula_cases(rt: &impl Print) -> io::Result<()> {
 fn trace_cases(rt: &impl Print) -> io::Result<()> {
     traces(
         rt,
-        b"(finite)
+        "(finite)
 (finite 1)
 (finite 0 0)
 (lasso () (2))
@@ -321,5 +292,5 @@ fn main(rt: HostRuntime) -> io::Result<()> {
     written(&rt)?;
     stored(&rt)?;
     letters(&rt)?;
-    borders(&rt)
+    borders(&rt, rt.alloc())
 }

@@ -1,58 +1,62 @@
-// Line 1 of a run: its formula is read and translated, and its answer is the first text that is gathered.
+// Line 1 of a run: its formula is read and translated.
 #![tactic(auto)]
 
-ghost use Rattle.std.specs.Prelude.{◌≡◌, ◌*◌, length};
-ghost use Rattle.psl.specs.Check.{psl_rules};
-ghost use Rattle.ltl.specs.Check.{ltl_rules};
-ghost use Rattle.line_one.specs.Inner.{FirstRead, FirstDone};
+ghost use Rattle.std.specs.Prelude.{◌≡◌};
+ghost use Rattle.std.proofs.Math.Option.{none};
+ghost use Rattle.psl.specs.Check.{psl_refusal};
+ghost use Rattle.ltl.specs.Check.{ltl_refusal};
 
-use answers::First;
-use formula_lines::FormulaLine;
-use printing::{put_refused, put_table};
-use state::State;
-use translate::Translation;
+use arrayvec::ArrayVec;
+use ltl::LtlTable;
+use psl::PslTable;
+use std::marker::PhantomData;
+use trace::Refusal;
 
-// Its PSL table into the one list, the translation into the other. Where each has room for the largest, neither 23 nor 10 is due.
-fn first_line(line: &[u8], psl: &mut [u16], ltl: &mut [u16]) -> First
-    ensures { FirstRead line.now psl.old ltl.old result psl.new ltl.new }
-{
-    match formula_lines::read_formula(line, psl) {
-        FormulaLine::Refused(x) => First::Refused(x),
-        FormulaLine::Nodes(p) => {
-            let end = 3 * p;
-            match translate::translate(&psl[..end], ltl) {
-                Translation::Refused(x) => First::Refused(x),
-                Translation::Nodes(q) => First::Tables { psl: p, ltl: q },
-            }
-        }
-    }
+// Room for the numbers of the largest tables.
+const PSL_ROOM: usize = 3 * psl::MOST_NODES;
+
+const LTL_ROOM: usize = 3 * ltl::MOST_NODES;
+
+// The tables of line 1. Both passed their check, so that no later line has to test them again.
+#[derive(Drop)]
+pub struct Tables {
+    pub psl: ArrayVec<u16, PSL_ROOM>,
+    pub ltl: ArrayVec<u16, LTL_ROOM>,
+    pub ghost psl_accepted: { psl_refusal psl.items ≡ none },
+    pub ghost ltl_accepted: { ltl_refusal ltl.items ≡ none },
 }
 
-// The state after line 1, and its answer's text. What is promised is promised of lists with room for the largest tables.
-pub fn answer_first(line: &[u8], psl: &mut [u16], ltl: &mut [u16], out: &mut [u8]) -> State
-    ensures { length psl.old ≡ 3 * psl_rules.most → length ltl.old ≡ 3 * ltl_rules.most → FirstDone line.now out.old result psl.new ltl.new out.new }
-{
-    match first_line(line, psl, ltl) {
-        First::Refused(x) => State {
-            number: 2,
-            filled: 0,
-            psl_nodes: 0,
-            ltl_nodes: 0,
-            gathered: put_refused(out, 0, 1, x),
-            more: false,
-            failed: false,
-        },
-        First::Tables { psl: p, ltl: q } => {
-            let end = 3 * q;
-            State {
-                number: 2,
-                filled: 0,
-                psl_nodes: p,
-                ltl_nodes: q,
-                gathered: put_table(out, 0, &ltl[..end]),
-                more: true,
-                failed: false,
-            }
+impl Tables {
+    ghost use Rattle.line_one.specs.Inner.{FirstAnswer};
+
+    // The PSL table of a line's formula and its translation, or the line's refusal. Each list has room for the largest table: neither 23 nor 10 is due.
+    pub fn of_line(line: &[u8]) -> Result<Tables, Refusal>
+        ensures { FirstAnswer line.now result }
+    {
+        let mut psl = ArrayVec::from([0u16; PSL_ROOM]);
+        let mut ltl = ArrayVec::from([0u16; LTL_ROOM]);
+        let p = formula_lines::read_formula(line, &mut psl)?;
+        psl.truncate(3 * p);
+        let q = translate::translate(&psl, &mut ltl)?;
+        ltl.truncate(3 * q);
+        Ok(Tables { psl, ltl })
+    }
+
+    pub fn psl(&self) -> PslTable<'_>
+        ensures { result.numbers.now ≡ self.now.psl.items }
+    {
+        PslTable {
+            numbers: &self.psl,
+            of: PhantomData,
+        }
+    }
+
+    pub fn ltl(&self) -> LtlTable<'_>
+        ensures { result.numbers.now ≡ self.now.ltl.items }
+    {
+        LtlTable {
+            numbers: &self.ltl,
+            of: PhantomData,
         }
     }
 }

@@ -20,6 +20,9 @@ module _ (t : List ℕ) (fine : ltl_refusal t ≡ none) where
   most-nodes = (table-sized ltl_rules t fine).low
 
   module _ (i : ℕ) (inside : i < count t) where
+    pub kind-known : kind_at t i < 7
+    kind-known = kind_in ltl_rules t fine i inside
+
     pub is-var : kind_at t i ≡ 1 → left_at t i < signals
     is-var e = (left-fits ltl_rules t fine i inside 1 e).low
 

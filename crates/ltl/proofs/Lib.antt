@@ -1,4 +1,3 @@
-pub mod CheckLaw
 pub mod AcceptedLaw
 pub mod ClaimsLaw
 pub mod TreeLaw

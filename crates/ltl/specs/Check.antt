@@ -1,7 +1,8 @@
 -- What the LTL check refuses.
 use Rattle.std.specs.Prelude.{◌≡◌, true, List, [], ◌∷◌, ℕ}
 use Rattle.std.proofs.Math.Option.{Option, none}
-use Rattle.trace.specs.declared.Refusal.{Refusal}
+use Rattle.trace.specs.declared.refusal.Refusal.{Refusal}
+use Rattle.trace.specs.declared.refusal.Refusal.TheVariants.{LtlLength, LtlKind, LtlUnused, LtlSignal, LtlOperand}
 use Rattle.table.specs.Rules.{unused, signal, formula, is_operand, Rules, shape_of}
 use Rattle.table.specs.Check.{table_refusal}
 
@@ -19,7 +20,7 @@ ltl_rules =
           ∷ (formula, formula)  -- 6 until
           ∷ [];
       most = 4096;
-      numbers = record { length = 11; kind = 12; unused = 13; signal = 14; operand = 15 };
+      refusals = record { length = LtlLength; kind = LtlKind; unused = LtlUnused; signal = LtlSignal; operand = LtlOperand };
       sorts = none;
     }
 

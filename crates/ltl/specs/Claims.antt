@@ -2,7 +2,8 @@
 use Rattle.std.specs.Prelude.{◌≡◌, List, ℕ, ◌*◌, ◌≤◌, ◌<◌, length}
 use Rattle.std.proofs.Math.Option.{none}
 use Rattle.logic.specs.Letter.{signals}
-use Rattle.table.specs.declared.Checked.{Checked}
+use Rattle.std.specs.Prelude.{Result}
+use Rattle.trace.specs.declared.refusal.Refusal.{Refusal}
 use Rattle.table.specs.Node.{count, kind_at, left_at, right_at}
 use Rattle.table.specs.Rules.{unused, shape_of}
 use Rattle.ltl.specs.Check.{ltl_rules, LeftOperand, RightOperand, ltl_refusal}
@@ -10,7 +11,7 @@ use Rattle.ltl.specs.Answer.{LtlChecks}
 
 pub record Claims : Type 0 where
   -- The check has one answer for every table.
-  pub one_answer : (t : List ℕ) (r r' : Checked) → LtlChecks t r → LtlChecks t r' → r ≡ r'
+  pub one_answer : (t : List ℕ) (r r' : Result (Unit {0}) Refusal) → LtlChecks t r → LtlChecks t r' → r ≡ r'
   -- An accepted table has 1 to 4,096 nodes of three numbers each.
   pub sized : (t : List ℕ) → ltl_refusal t ≡ none → (length t ≡ 3 * count t) × (1 ≤ count t) × (count t ≤ ltl_rules.most)
   -- Each var names a signal.

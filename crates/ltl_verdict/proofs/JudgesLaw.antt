@@ -6,8 +6,8 @@ use Prim.Native.Nat.{ℕ, ◌≤◌, ◌<◌}
 use borrow.Author.Tests.{lt-ltb, le-ltb}
 use Rattle.trace.specs.Limits.{most_letters}
 use Rattle.logic.specs.Trace.{size}
-use Rattle.trace.specs.declared.Refusal.{Refusal}
-use Rattle.trace.specs.Refusal.{refused}
+use Rattle.trace.specs.declared.refusal.Refusal.{Refusal}
+use Rattle.trace.specs.declared.refusal.Refusal.TheVariants.{LongTrace, EmptyTrace}
 use Rattle.ltl.specs.Check.{ltl_refusal}
 use Rattle.trace.specs.Verdict.{long_refusal}
 use Rattle.trace.proofs.JudgesLaw.{refused-first, too_long, not-long}
@@ -19,12 +19,12 @@ module _ (t lead loop : List ℕ) where
   ltl_check e = refused-first _ _ (refused-first (ltl_refusal t) (long_refusal lead loop) e)
 
   module _ (e : ltl_refusal t ≡ none) where
-    pub ltl-long : most_letters < size lead loop → ltl_verdict_refusal t lead loop ≡ some (refused 9)
+    pub ltl-long : most_letters < size lead loop → ltl_verdict_refusal t lead loop ≡ some LongTrace
     unfolding ltl_verdict_refusal
     ltl-long h = refused-first _ _ (too_long (ltl_refusal t) lead loop e h)
 
     module _ (h : size lead loop ≤ most_letters) where
-      pub ltl-empty : size lead loop ≤ 0 → ltl_verdict_refusal t lead loop ≡ some (refused 16)
+      pub ltl-empty : size lead loop ≤ 0 → ltl_verdict_refusal t lead loop ≡ some EmptyTrace
       unfolding ltl_verdict_refusal
       ltl-empty z = rw (not-long (ltl_refusal t) lead loop e h, le-ltb 0 (size lead loop) z)
 

@@ -1,8 +1,7 @@
 -- What each answer of the LTL verdict says.
 use Rattle.std.proofs.Math.Option.{Option}
-use Rattle.std.specs.Prelude.{List, ℕ}
-use Rattle.trace.specs.declared.Refusal.{Refusal}
-use Rattle.trace.specs.declared.Verdict.{Verdict}
+use Rattle.std.specs.Prelude.{Bool, List, ℕ, Result}
+use Rattle.trace.specs.declared.refusal.Refusal.{Refusal}
 use Rattle.trace.specs.Refusal.{or_else}
 use Rattle.trace.specs.Verdict.{long_refusal, empty_refusal, Judges}
 use Rattle.logic.specs.LtlMeaning.{LtlHoldsOn}
@@ -14,5 +13,5 @@ unfoldable pub ltl_verdict_refusal : List ℕ → List ℕ → List ℕ → Opti
 ltl_verdict_refusal t lead loop = or_else (or_else (ltl_refusal t) (long_refusal lead loop)) (empty_refusal lead loop)
 
 -- Whether the tree of the table holds on the trace, by the LTL meaning.
-abbrev pub LtlJudges : List ℕ → List ℕ → List ℕ → Verdict → Type 0
+abbrev pub LtlJudges : List ℕ → List ℕ → List ℕ → Result Bool Refusal → Type 0
 LtlJudges t lead loop v = Judges (ltl_verdict_refusal t lead loop) (LtlHoldsOn (tree_of t) lead loop) v

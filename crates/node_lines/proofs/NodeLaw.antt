@@ -1,4 +1,6 @@
 -- What each way out of the writer of a node line gives.
+use Rattle.std.specs.Prelude.{Result, Ok, Err}
+use Rattle.trace.specs.declared.refusal.Refusal.TheVariants.{LtlLength, LineRoom}
 use mathlib.Core.Path.{◌≡◌, refl, ap, sym, subst, ◌∙◌}
 use mathlib.Core.Bool.{false}
 use mathlib.Core.Option.{Option, none, some}
@@ -6,16 +8,14 @@ use mathlib.Core.List.{List, [], ◌∷◌, ◌++◌, map, append_assoc, append_
 use Prim.Native.Nat.{ℕ, zero, suc, ◌<◌, ◌≤◌}
 use native.Mathlib.Omega.{arith}
 use borrow.Author.Tests.{lt-ltb, le-ltb, ltb-true}
-use lib.ListN.{length, take}
-use lib.Seq.{sets}
+use lib.ListN.{length, take, drop}
+use lib.Seq.{sets, sets-eq}
 use lib.Dec.{T, ltb}
-use Rattle.trace.specs.declared.Refusal.{Refusal}
+use Rattle.trace.specs.declared.refusal.Refusal.{Refusal}
 use Rattle.table.specs.Node.{Node, node}
-use Rattle.trace.specs.Refusal.{refused}
 use Rattle.table.specs.Answer.{checked}
 use Rattle.table.specs.Rules.{known, shape_of}
 use Rattle.table.specs.Check.{node_refusal}
-use Rattle.table.specs.declared.Checked.{Checked}
 use Rattle.table.proofs.CheckLaw.{unless-none, accepted, was_refused, Fits, places_fit}
 use Rattle.table.proofs.KindLaw.{◌⨾◌, each}
 use Rattle.ltl.specs.Check.{ltl_rules}
@@ -24,18 +24,14 @@ use Rattle.text.specs.Spelling.{digits, ending}
 use Rattle.node_lines.specs.Spelling.{ltl_word, ltl_places, node_line}
 use Rattle.node_lines.specs.NodeAnswer.{node_fault, answer_to, node_answer, node_list}
 use Rattle.text.specs.Inner.Words.{elem}
-use Rattle.text.specs.Inner.Writer.{Wrote}
-use Rattle.node_lines.specs.declared.NodeLine.{NodeLine}
-use Rattle.node_lines.specs.declared.NodeLine.TheVariants.{Bytes, Refused}
 use Rattle.text.proofs.NumberLaw.{digits_unique, ending_unique}
-use Rattle.text.proofs.WriterLaw.{wrote-front}
 use Rattle.text.proofs.WordLaw.{Distinct, word_unique}
 
 -- The answer x and the list m.
-abbrev pub Answers : ℕ → Node → List ℕ → NodeLine → List ℕ → Type 0
+abbrev pub Answers : ℕ → Node → List ℕ → Result ℕ Refusal → List ℕ → Type 0
 Answers i n l x m = (x ≡ node_answer i n (length l)) × (m ≡ node_list x (node_line i n) l)
 
-answers : (i : ℕ) (n : Node) (l m : List ℕ) (x : NodeLine) (o : Option Refusal) → node_fault i n ≡ o → x ≡ answer_to o (node_line i n) (length l)
+answers : (i : ℕ) (n : Node) (l m : List ℕ) (x : Result ℕ Refusal) (o : Option Refusal) → node_fault i n ≡ o → x ≡ answer_to o (node_line i n) (length l)
     → m ≡ node_list x (node_line i n) l → Answers i n l x m
 answers i n l m x o e v w = (v ∙ ap (λ (y : Option Refusal). answer_to y (node_line i n) (length l)) (sym e), w)
 
@@ -43,36 +39,40 @@ kind-low : (i k p q : ℕ) → node_refusal ltl_rules i (node k p q) false false
 unfolding node_refusal
 kind-low i k p q e = ltb-true k 7 (unless-none (known ltl_rules k) _ _ e).0
 
-module _ (i k p q : ℕ) (l : List ℕ) where
-  pub own_large : ltl_rules.most ≤ i → Answers i (node k p q) l (Refused (refused 11)) l
-  own_large h = answers i (node k p q) l l (Refused (refused 11)) (some (refused 11)) (rw (le-ltb i ltl_rules.most h)) refl refl
+sets_front : (w l : List ℕ) (n : ℕ) → n ≡ length w → n ≤ length l → sets l 0 w ≡ w ++ drop n l
+sets_front w l n d h = sets-eq w l 0 (omega arith) ∙ ap (λ (n : ℕ). w ++ drop n l) (omega arith)
 
-  module _ (h : i < ltl_rules.most) (a : Checked) (e : a ≡ checked (node_refusal ltl_rules i (node k p q) false false)) where
+module _ (i k p q : ℕ) (l : List ℕ) where
+  pub own_large : ltl_rules.most ≤ i → Answers i (node k p q) l (Err LtlLength) l
+  own_large h = answers i (node k p q) l l (Err LtlLength) (some LtlLength) (rw (le-ltb i ltl_rules.most h)) refl refl
+
+  module _ (h : i < ltl_rules.most) (a : Result (Unit {0}) Refusal) (e : a ≡ checked (node_refusal ltl_rules i (node k p q) false false)) where
     fault : node_fault i (node k p q) ≡ node_refusal ltl_rules i (node k p q) false false
     fault = rw (lt-ltb i ltl_rules.most h)
 
-    pub faulty : (x : Refusal) → a ≡ Checked.Refused x → Answers i (node k p q) l (Refused x) l
-    faulty x d = answers i (node k p q) l l (Refused x) (some x) (fault ∙ was_refused _ a x e d) refl refl
+    pub faulty : (x : Refusal) → a ≡ Err x → Answers i (node k p q) l (Err x) l
+    faulty x d = answers i (node k p q) l l (Err x) (some x) (fault ∙ was_refused _ a x e d) refl refl
 
-    module _ (d : a ≡ Checked.Accepted) where
+    module _ (d : a ≡ Ok tt) where
       sound : node_refusal ltl_rules i (node k p q) false false ≡ none
       sound = accepted _ a e d
 
-      -- The line was written aside, into v.
-      module _ {u v : List ℕ} (n : ℕ) (aside : Wrote (node_line i (node k p q)) u v 0 n) (room : length (node_line i (node k p q)) ≤ length u) where
-        counted : n ≡ length (node_line i (node k p q))
-        counted = omega (arith, aside.ends)
+      pub low : k < 7
+      low = kind-low i k p q sound
 
-        pub no_room : length l < n → Answers i (node k p q) l (Refused (refused 24)) l
+      -- The line was written aside: it is w.
+      module _ (w : List ℕ) (aside : w ≡ node_line i (node k p q)) where
+        pub no_room : length l < length w → Answers i (node k p q) l (Err LineRoom) l
         no_room g =
-            answers i (node k p q) l l (Refused (refused 24)) none (fault ∙ sound)
-            (rw (lt-ltb (length l) (length (node_line i (node k p q))) (omega (arith, counted)))) refl
+            answers i (node k p q) l l (Err LineRoom) none (fault ∙ sound)
+            (rw (lt-ltb (length l) (length (node_line i (node k p q))) (omega (arith, ap length aside)))) refl
 
-        pub line_written : n ≤ length l → {m : List ℕ} {end : ℕ} → Wrote (take n v) l m 0 end → Answers i (node k p q) l (Bytes n) m
-        line_written g w =
-            answers i (node k p q) l _ (Bytes n) none (fault ∙ sound)
-            (ap Bytes counted ∙ rw (le-ltb (length l) (length (node_line i (node k p q))) (omega (arith, counted))) refl)
-            (w.is ∙ ap (sets l 0) (wrote-front aside room))
+        pub line_written : (n : ℕ) → n ≡ length w → n ≤ length l → {m : List ℕ} → m ≡ w ++ drop n l → Answers i (node k p q) l (Ok n) m
+        line_written n d g e =
+            let f : n ≡ length (node_line i (node k p q)) = d ∙ ap length aside in
+            answers i (node k p q) l _ (Ok n) none (fault ∙ sound)
+            (ap (λ (z : ℕ). Ok z) f ∙ rw (le-ltb (length l) (length (node_line i (node k p q))) (omega (arith, f))) refl)
+            (e ∙ sym (sets_front w l n d g) ∙ ap (sets l 0) aside)
 
 -- ── No two nodes are spelled alike ──
 
@@ -113,7 +113,7 @@ same-places (suc (suc n)) p q p' q' _ _ e = (head-eq_of_cons-eq e, head-eq_of_co
 is_tidy : (i k p q : ℕ) → node_fault i (node k p q) ≡ none → (k < 7) × Tidy (ltl_places k) p q
 unfolding node_refusal
 is_tidy i k p q e =
-    let d = (unless-none (ltb i ltl_rules.most) (refused 11) _ e).1 in
+    let d = (unless-none (ltb i ltl_rules.most) LtlLength _ e).1 in
     let low = kind-low i k p q d in
     let (a, b) = places_fit ltl_rules (shape_of ltl_rules k) i p q false false (unless-none (known ltl_rules k) _ _ d).1 in
     (low, tidy i k p q low a b)

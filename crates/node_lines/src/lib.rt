@@ -1,18 +1,18 @@
 // Node lines: `(I kind)`, `(I kind P)` or `(I kind P Q)`, and byte 10.
 #![tactic(auto)]
 
-ghost use Rattle.std.specs.Prelude.{◌≡◌, length, false};
+ghost use Rattle.std.specs.Prelude.{◌≡◌, ◌≤◌, ◌++◌, length, take, false};
 ghost use Rattle.table.specs.Node.{node};
 ghost use Rattle.table.specs.Answer.{checked};
 ghost use Rattle.table.specs.Check.{node_refusal};
 ghost use Rattle.ltl.specs.Check.{ltl_rules};
 ghost use Rattle.node_lines.specs.Spelling.{ltl_word, ltl_places, node_line};
 ghost use Rattle.node_lines.specs.NodeAnswer.{node_answer, node_list};
-ghost use Rattle.text.specs.Inner.Writer.{Wrote};
-ghost use Rattle.node_lines.specs.Inner.Writer.{spaced};
+ghost use Rattle.node_lines.specs.Inner.Writer.{line_end};
 
-use ltl::LTL;
-use table::{Checked, NodeNo, check_node};
+use arrayvec::ArrayVec;
+use ltl::Kind;
+use table::{Node, NodeNo, check_node};
 use text::put::{put_number, put_text};
 use trace::Refusal;
 
@@ -22,91 +22,80 @@ const MOST_NODES: u16 = ltl::MOST_NODES as u16;
 // Room for any node line; the longest has 26 bytes.
 const LINE_ROOM: usize = 32;
 
-// The word of a kind; none for a kind that there is not.
-fn put_word(out: &mut [u8], at: usize, kind: u16) -> usize
-    ensures { Wrote (ltl_word kind) out.old out.new at result }
+// The word of a kind; none for a number that is no kind.
+#[tactic(auto, unfolding(crate::specs::Spelling::ltl_word))]
+fn word(kind: u16) -> &'static [u8]
+    ensures { result.now ≡ ltl_word kind }
 {
-    match kind {
-        ltl::TRUE => put_text(out, at, b"true"),
-        ltl::VAR => put_text(out, at, b"var"),
-        ltl::NOT => put_text(out, at, b"not"),
-        ltl::AND => put_text(out, at, b"and"),
-        ltl::OR => put_text(out, at, b"or"),
-        ltl::NEXT => put_text(out, at, b"next"),
-        ltl::UNTIL => put_text(out, at, b"until"),
-        _ => at,
+    match Kind::try_from(kind) {
+        Ok(Kind::True) => b"true",
+        Ok(Kind::Var) => b"var",
+        Ok(Kind::Not) => b"not",
+        Ok(Kind::And) => b"and",
+        Ok(Kind::Or) => b"or",
+        Ok(Kind::Next) => b"next",
+        Ok(Kind::Until) => b"until",
+        Err(_) => b"",
     }
 }
 
 // How many of its two places a kind uses.
-fn places(kind: u16) -> u16
-    ensures { result ≡ ltl_places kind }
+#[tactic(auto, unfolding(crate::specs::Spelling::ltl_places))]
+fn places(kind: u16) -> usize
+    ensures { (result ≡ ltl_places kind) × (result ≤ 2) }
 {
-    if kind < ltl::KINDS {
-        return [0u16, 1, 1, 2, 2, 1, 2][kind as usize];
+    match Kind::try_from(kind) {
+        Ok(Kind::True) | Err(_) => 0,
+        Ok(Kind::Var | Kind::Not | Kind::Next) => 1,
+        Ok(Kind::And | Kind::Or | Kind::Until) => 2,
     }
-    0
 }
 
-// The first n of two numbers, a space before each.
-fn put_numbers(out: &mut [u8], at: usize, n: u16, p: u16, q: u16) -> usize
-    ensures { Wrote (spaced n p q) out.old out.new at result }
+// The numbers in a node's places, a space before each, and the line's end.
+fn put_places<const N: usize>(out: &mut ArrayVec<u8, N>, numbers: &[u16])
+    ensures { out.new.items ≡ take N (out.old.items ++ line_end numbers.now) }
 {
-    if n == 0 {
-        return at;
+    for n in numbers {
+        put_text(out, b" ");
+        put_number(out, u64::from(*n));
     }
-    let a = put_text(out, at, b" ");
-    let b = put_number(out, a, p as u64);
-    if n == 1 {
-        return b;
-    }
-    let c = put_text(out, b, b" ");
-    put_number(out, c, q as u64)
+    put_text(out, b")\n");
 }
 
 // A node's line.
-pub fn put_line(out: &mut [u8], at: usize, no: NodeNo, kind: u16, left: u16, right: u16) -> usize
-    ensures { Wrote (node_line no.0 (node kind left right)) out.old out.new at result }
+#[tactic(auto, using(text::proofs::WriterLaw::putting))]
+pub fn put_line<const N: usize>(out: &mut ArrayVec<u8, N>, no: NodeNo, x: Node<u16>)
+    ensures { out.new.items ≡ take N (out.old.items ++ node_line no.0 (node x.kind x.left x.right)) }
 {
-    let a = put_text(out, at, b"(");
-    let b = put_number(out, a, no.0 as u64);
-    let c = put_text(out, b, b" ");
-    let d = put_word(out, c, kind);
-    let e = put_numbers(out, d, places(kind), left, right);
-    put_text(out, e, b")\n")
-}
-
-#[derive(Clone, Copy)]
-pub enum NodeLine {
-    Bytes(usize),
-    Refused(Refusal),
+    put_text(out, b"(");
+    put_number(out, u64::from(no.0));
+    put_text(out, b" ");
+    put_text(out, word(x.kind));
+    put_places(out, &[x.left, x.right][..places(x.kind)]);
 }
 
 // What the LTL check says of a node.
-fn check_alone(no: NodeNo, kind: u16, left: u16, right: u16) -> Checked
-    ensures { result ≡ checked (node_refusal ltl_rules no.0 (node kind left right) false false) }
+fn check_alone(no: NodeNo, x: Node<u16>) -> Result<(), Refusal>
+    ensures { result ≡ checked (node_refusal ltl_rules no.0 (node x.kind x.left x.right) false false) }
 {
-    check_node(LTL, no, kind, left, right, false, false)
+    check_node::<Kind>(no, x, false, false)
 }
 
-// A node's line into the lent bytes. It is written aside first, for its length.
-pub fn write_node(no: NodeNo, kind: u16, left: u16, right: u16, out: &mut [u8]) -> NodeLine
-    ensures value { result ≡ node_answer no.0 (node kind left right) (length out.old) }
-    ensures out_after { out.new ≡ node_list result (node_line no.0 (node kind left right)) out.old }
+// A node's line into the lent bytes: a list, since C lends one. It is written aside first, for its length.
+pub fn write_node(no: NodeNo, x: Node<u16>, out: &mut [u8]) -> Result<usize, Refusal>
+    ensures value { result ≡ node_answer no.0 (node x.kind x.left x.right) (length out.old) }
+    ensures out_after { out.new ≡ node_list result (node_line no.0 (node x.kind x.left x.right)) out.old }
 {
     if MOST_NODES <= no.0 {
-        return NodeLine::Refused(Refusal(11));
+        return Err(Refusal::LtlLength);
     }
-    match check_alone(no, kind, left, right) {
-        Checked::Refused(x) => NodeLine::Refused(x),
-        Checked::Accepted => {
-            let mut line = [0u8; LINE_ROOM];
-            let n = put_line(&mut line, 0, no, kind, left, right);
-            if out.len() < n {
-                return NodeLine::Refused(Refusal(24));
-            }
-            put_text(out, 0, &line[..n]);
-            NodeLine::Bytes(n)
-        }
+    check_alone(no, x)?;
+    let mut line: ArrayVec<u8, LINE_ROOM> = ArrayVec::new();
+    put_line(&mut line, no, x);
+    let n = line.len();
+    if out.len() < n {
+        return Err(Refusal::LineRoom);
     }
+    out[..n].copy_from_slice(line.as_slice());
+    Ok(n)
 }

@@ -1,3 +1,4 @@
 pub mod Printed
 pub mod Limits
+pub mod Claims
 pub mod Inner

@@ -1,24 +1,24 @@
 -- What a run prints. Each line ends with byte 10.
-use Rattle.std.specs.Prelude.{List, [], ◌∷◌, ◌++◌, ℕ, zero, suc}
-use Rattle.trace.specs.declared.Refusal.{Refusal}
+use Rattle.std.specs.Prelude.{List, [], ◌∷◌, ◌++◌, ℕ, zero, suc, Bool, true, false, Result, Ok, Err}
+use Rattle.trace.specs.declared.refusal.Refusal.{Refusal}
+use Rattle.trace.specs.Refusal.{number}
 use Rattle.table.specs.Node.{count, node_at}
-use Rattle.trace.specs.declared.Verdict.{Verdict}
 use Rattle.text.specs.Text.{text}
 use Rattle.text.specs.Spelling.{digits, brackets}
 use Rattle.node_lines.specs.Spelling.{node_line}
 
 -- `(refused L R)`: the line's number and the refusal.
 unfoldable pub refused_text : ℕ → Refusal → List ℕ
-refused_text line x = brackets (text "refused" ∷ digits line ∷ digits x.0 ∷ []) ++ text "\n"
+refused_text line x = brackets (text "refused" ∷ digits line ∷ digits (number x) ∷ []) ++ text "\n"
 
 -- A verdict; `none` where it is refused.
-unfoldable pub verdict_text : Verdict → List ℕ
-verdict_text Verdict.Yes = text "yes"
-verdict_text Verdict.No = text "no"
-verdict_text (Verdict.Refused x) = text "none"
+unfoldable pub verdict_text : Result Bool Refusal → List ℕ
+verdict_text (Ok true) = text "yes"
+verdict_text (Ok false) = text "no"
+verdict_text (Err x) = text "none"
 
 -- `(trace I psl V ltl W)`: the trace line's number and both verdicts.
-unfoldable pub trace_text : ℕ → Verdict → Verdict → List ℕ
+unfoldable pub trace_text : ℕ → Result Bool Refusal → Result Bool Refusal → List ℕ
 trace_text i v w = brackets (text "trace" ∷ digits i ∷ text "psl" ∷ verdict_text v ∷ text "ltl" ∷ verdict_text w ∷ []) ++ text "\n"
 
 -- The lines of the first k nodes of a table.

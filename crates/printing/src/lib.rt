@@ -1,67 +1,68 @@
-// The text of a run's answers, put into a lent list.
+// The text of a run's answers, put into a vector of bytes.
 #![tactic(auto)]
 
-ghost use Rattle.std.specs.Prelude.{◌+◌, ◌≤◌};
-ghost use Rattle.text.specs.Inner.Writer.{Wrote};
+ghost use Rattle.std.specs.Prelude.{◌≡◌, ◌++◌, take};
 ghost use Rattle.printing.specs.Printed.{refused_text, verdict_text, trace_text};
-ghost use Rattle.printing.specs.Limits.{most_later, longest_verdict};
-ghost use Rattle.printing.specs.Inner.{TableWrote};
+ghost use Rattle.printing.specs.Inner.{TablePut};
 
+use arrayvec::ArrayVec;
 use node_lines::put_line;
-use table::NodeNo;
+use table::{NodeNo, node_in};
 use text::put::{put_number, put_text};
 use trace::{Refusal, Verdict};
 
 // `(refused L R)`
-pub fn put_refused(out: &mut [u8], at: usize, line: u64, x: Refusal) -> usize
-    ensures { Wrote (refused_text line x) out.old out.new at result × (result ≤ at + most_later) }
+#[tactic(auto, using(text::proofs::WriterLaw::putting), unfolding(crate::specs::Printed::refused_text))]
+pub fn put_refused<const N: usize>(out: &mut ArrayVec<u8, N>, line: u64, x: Refusal)
+    ensures { out.new.items ≡ take N (out.old.items ++ refused_text line x) }
 {
-    let a = put_text(out, at, b"(refused ");
-    let b = put_number(out, a, line);
-    let c = put_text(out, b, b" ");
-    let d = put_number(out, c, x.0 as u64);
-    put_text(out, d, b")\n")
+    put_text(out, b"(refused ");
+    put_number(out, line);
+    put_text(out, b" ");
+    put_number(out, u64::from(u8::from(x)));
+    put_text(out, b")\n");
 }
 
-fn put_verdict(out: &mut [u8], at: usize, v: Verdict) -> usize
-    ensures { Wrote (verdict_text v) out.old out.new at result × (result ≤ at + longest_verdict) }
+// The word of a verdict.
+#[tactic(auto, unfolding(crate::specs::Printed::verdict_text))]
+fn word(v: Verdict) -> &'static [u8]
+    ensures { result.now ≡ verdict_text v }
 {
     match v {
-        Verdict::Yes => put_text(out, at, b"yes"),
-        Verdict::No => put_text(out, at, b"no"),
-        Verdict::Refused(_) => put_text(out, at, b"none"),
+        Ok(true) => b"yes",
+        Ok(false) => b"no",
+        Err(_) => b"none",
     }
 }
 
 // `(trace I psl V ltl W)`
-pub fn put_trace(out: &mut [u8], at: usize, trace: u64, psl: Verdict, ltl: Verdict) -> usize
-    ensures { Wrote (trace_text trace psl ltl) out.old out.new at result × (result ≤ at + most_later) }
+#[tactic(auto, using(text::proofs::WriterLaw::putting), unfolding(crate::specs::Printed::trace_text))]
+pub fn put_trace<const N: usize>(out: &mut ArrayVec<u8, N>, trace: u64, psl: Verdict, ltl: Verdict)
+    ensures { out.new.items ≡ take N (out.old.items ++ trace_text trace psl ltl) }
 {
-    let a = put_text(out, at, b"(trace ");
-    let b = put_number(out, a, trace);
-    let c = put_text(out, b, b" psl ");
-    let d = put_verdict(out, c, psl);
-    let e = put_text(out, d, b" ltl ");
-    let f = put_verdict(out, e, ltl);
-    put_text(out, f, b")\n")
+    put_text(out, b"(trace ");
+    put_number(out, trace);
+    put_text(out, b" psl ");
+    put_text(out, word(psl));
+    put_text(out, b" ltl ");
+    put_text(out, word(ltl));
+    put_text(out, b")\n");
 }
 
-// `(ltl S)` and the node lines of an LTL table; nothing where it has more nodes than a table may have.
-pub fn put_table(out: &mut [u8], at: usize, t: &[u16]) -> usize
-    ensures { TableWrote t.now out.old out.new at result }
+// `(ltl S)` and the node lines of a table; nothing where it has more nodes than a table may have.
+pub fn put_table<const N: usize>(out: &mut ArrayVec<u8, N>, t: &[u16])
+    ensures { TablePut t.now N out.old.items out.new.items }
 {
     let nodes = t.len() / 3;
     if ltl::MOST_NODES < nodes {
-        return at;
+        return;
     }
-    let a = put_text(out, at, b"(ltl ");
-    let b = put_number(out, a, nodes as u64);
-    let mut to = put_text(out, b, b")\n");
-    let mut i: usize = 0;
-    while i < nodes {
-        let own = i as u16;
-        to = put_line(out, to, NodeNo(own), t[3 * i], t[3 * i + 1], t[3 * i + 2]);
-        i += 1;
+    put_text(out, b"(ltl ");
+    put_number(out, nodes as u64);
+    put_text(out, b")\n");
+    for i in 0..nodes {
+        let no = NodeNo(i as u16);
+        let x = node_in(t, i);
+        put_line(out, no, x);
     }
-    to
 }

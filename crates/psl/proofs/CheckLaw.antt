@@ -1,4 +1,5 @@
 -- Laws of the PSL check: the counts of uses, which refusal decides, and what an accepted table is like.
+use Rattle.trace.specs.declared.refusal.Refusal.TheVariants.{PslRoot, PslUse}
 use mathlib.Core.Path.{◌≡◌, refl, sym, ap, ◌∙◌, subst}
 use mathlib.Core.Bool.{Bool, true, false, not, ◌&&◌}
 use mathlib.Core.Option.{Option, none, some}
@@ -6,77 +7,25 @@ use mathlib.Core.List.{List}
 use Prim.Native.Nat.{ℕ, zero, suc, ◌+◌, ◌*◌, ◌-◌, ◌≤◌, ◌<◌}
 use native.Mathlib.Omega.{arith}
 use native.Mathlib.Numerals.{add-one}
-use native.Mathlib.Decide.{ℕ_discrete}
 use lib.Dec.{eqb}
-use lib.ListN.{length, get_or, set, length-set, replicate, length-replicate, get_or-replicate}
-use lib.Seq.{get_or-set_same, get_or-set_other}
-use borrow.Author.Tests.{eq-eqb, ne_eqb, eqb-true, ltb-true, not-true}
-use Rattle.trace.specs.declared.Refusal.{Refusal}
-use Rattle.trace.specs.Refusal.{refused, lowest}
+use lib.ListN.{length, get_or, replicate, length-replicate, get_or-replicate}
+use borrow.Author.Tests.{eq-eqb, ne_eqb, eqb-true, not-true}
+use Rattle.trace.specs.declared.refusal.Refusal.{Refusal}
+use Rattle.std.proofs.Common.{Result, Ok, Err, IfOk}
+use Rattle.trace.specs.Refusal.{lowest}
+use Rattle.table.specs.Answer.{checked}
 use Rattle.table.specs.Node.{count, kind_at, left_at, right_at}
 use Rattle.table.specs.Rules.{Use, unused, signal, operand, shape_of}
-use Rattle.table.specs.Check.{sort_fits, length_fits, is_boolean, refusal_at, table_refusal}
-use Rattle.table.specs.Inner.Place.{coded, coded_rules, operand_or, bound, low_fits, all_fit, Codes}
-use Rattle.table.proofs.CheckLaw.{both_true, unless-none, or-none, Fits, Sound, node-none, node_sound, table_sound, sized, lowest-zero, lowest-next, lowest-some, none_below}
-use Rattle.table.proofs.PlaceLaw.{one-use}
+use Rattle.table.specs.Check.{length_fits, is_boolean, refusal_at, table_refusal}
+use Rattle.table.specs.Inner.Place.{operand_or, bound, all_fit}
+use Rattle.table.proofs.CheckLaw.{accepted, was_refused, unless-none, or-none, Fits, Fast, Sound, node_sound, sized, lowest-zero, lowest-next, lowest-some, none_below}
 use Rattle.psl.specs.Check.{psl_rules, one, names, names_at, uses, use_refusal, root_refusal, tree_refusal, psl_refusal, total}
-use Rattle.psl.specs.Inner.Counts.{LowPlace, Counted, CountRoom, Tallied}
-
--- The code's rules are those of PSL tables.
-pub rules-coded : Codes (coded_rules psl_rules) psl_rules
-rules-coded = record { is = refl; room = omega arith; numbered = λ z. omega arith }
-
--- ── Both places of a node, as the loop tests them ──
-
-one-fails : (a b c d : Bool) → a && b ≡ false → false ≡ (c && a) && (d && b)
-one-fails a b false d e = refl
-one-fails false b true d e = refl
-one-fails true b true false e = refl
-one-fails true b true true e = sym e
-
-both_pass : (c d : Bool) → c && d ≡ (c && true) && (d && true)
-both_pass true true = refl
-both_pass true false = refl
-both_pass false d = refl
+use Rattle.psl.specs.Inner.Counts.{Counted, CountRoom, Tallied}
 
 pub named_in : (u : Use) (n i c : ℕ) → n < bound u i → i < c → operand_or u n 0 < c
 named_in unused n i c h g = omega arith
 named_in signal n i c h g = omega arith
 named_in (operand b) n i c h g = omega arith
-
--- Where there is no operand, any kind will do.
-pub named_sort : (u : Use) (t : List ℕ) (n : ℕ) → sort_fits u (is_boolean psl_rules t (operand_or u n 0)) ≡ sort_fits u (is_boolean psl_rules t n)
-named_sort unused t n = refl
-named_sort signal t n = refl
-named_sort (operand b) t n = refl
-
-abbrev pub BothLow : Use × Use → ℕ → ℕ → ℕ → Bool
-BothLow u i l r = low_fits u.0 l i && low_fits u.1 r i
-
--- What the places l and r name in t has its kind.
-module _ (u : Use × Use) (i l r : ℕ) (t : List ℕ) where
-  abbrev BothFit : Bool
-  BothFit = all_fit psl_rules u.0 l i (is_boolean psl_rules t l) && all_fit psl_rules u.1 r i (is_boolean psl_rules t r)
-
-  pub not_low : BothLow u i l r ≡ false → false ≡ BothFit
-  not_low e = one-fails (low_fits u.0 l i) (low_fits u.1 r i) (sort_fits u.0 (is_boolean psl_rules t l)) (sort_fits u.1 (is_boolean psl_rules t r)) e
-
-  module _ (e : BothLow u i l r ≡ true) where
-    lows : (low_fits u.0 l i ≡ true) × (low_fits u.1 r i ≡ true)
-    lows = both_true (low_fits u.0 l i) (low_fits u.1 r i) e
-
-    pub left-low : l < bound u.0 i
-    left-low = ltb-true _ _ lows.0
-
-    pub right_low : r < bound u.1 i
-    right_low = ltb-true _ _ lows.1
-
-    pub low-sorts : sort_fits u.0 (is_boolean psl_rules t l) && sort_fits u.1 (is_boolean psl_rules t r) ≡ BothFit
-    low-sorts = rw (lows.0, lows.1) (both_pass (sort_fits u.0 (is_boolean psl_rules t l)) (sort_fits u.1 (is_boolean psl_rules t r)))
-
--- What is low as one use is low as the other use of the same number.
-pub low_as : {p n i : ℕ} (L : LowPlace p n i) (u : Use) → p ≡ coded u → n < bound u i
-low_as {p} {n} {i} L u e = subst (λ (v : Use). n < bound v i) (one-use L.meant u L.is e) L.low
 
 -- ── Counts ──
 
@@ -106,37 +55,6 @@ unfolding total
 uses-low t j zero = omega arith
 uses-low t j (suc i) = omega (arith, uses-low t j i, names-low t j i)
 
--- A place that holds n is counted: an operand gets one more.
-counted-operand : (b : Bool) (n : ℕ) (c : List ℕ) → n < length c → Counted (operand b) n c (set c n (get_or c n 0 + 1))
-counted-operand b n c h =
-    record {
-      same = length-set c n (get_or c n 0 + 1);
-      more = λ j l. elim (ℕ_discrete n j) [
-        | yes d ↦
-            subst (λ (m : ℕ). get_or (set c n (get_or c n 0 + 1)) m 0 ≡ get_or c m 0 + one (eqb n m)) d
-            (get_or-set_same c n (get_or c n 0 + 1) 0 h ∙ omega (arith, names_same n))
-        | no d ↦ get_or-set_other c n j (get_or c n 0 + 1) 0 (λ q. d (sym q)) ∙ omega (arith, names_other n j d)
-      ];
-    }
-
--- Where there is none, node 0 gets nothing more.
-nothing_more : (c : List ℕ) (j : ℕ) → 0 < length c → get_or (set c 0 (get_or c 0 0 + 0)) j 0 ≡ get_or c j 0 + 0
-nothing_more c j h =
-    elim (ℕ_discrete 0 j) [
-      | yes d ↦ subst (λ (m : ℕ). get_or (set c 0 (get_or c 0 0 + 0)) m 0 ≡ get_or c m 0 + 0) d (get_or-set_same c 0 (get_or c 0 0 + 0) 0 h)
-      | no d ↦ get_or-set_other c 0 j (get_or c 0 0 + 0) 0 (λ q. d (sym q)) ∙ omega arith
-    ]
-
-pub counted : (u : Use) (n : ℕ) (c : List ℕ) → let at = operand_or u n 0 in at < length c → Counted u n c (set c at (get_or c at 0 + operand_or u 1 0))
-counted unused n c h = record { same = length-set c 0 (get_or c 0 0 + 0); more = λ j l. nothing_more c j h }
-counted signal n c h = record { same = length-set c 0 (get_or c 0 0 + 0); more = λ j l. nothing_more c j h }
-counted (operand b) n c h = counted-operand b n c h
-
-pub one_more : (u : Use) → operand_or u 1 0 ≤ 1
-one_more unused = omega arith
-one_more signal = omega arith
-one_more (operand b) = omega arith
-
 -- Cleared counts, before the first node.
 pub untallied : (t : List ℕ) (n : ℕ) → length_fits psl_rules.most (length t) ≡ true → count t ≤ n → Tallied t 0 (replicate n 0)
 unfolding total
@@ -147,6 +65,23 @@ untallied t n e h =
       for_nodes = simp length-replicate h;
       counts = λ j g. get_or-replicate n j 0 0 (simp length-replicate at g);
     }
+
+-- The answer for the first node that is refused is that of all nodes.
+pub lowest_answer : (t : List ℕ) (i : ℕ) {a : Result (Unit {0}) Refusal} → i < count t → lowest (refusal_at psl_rules t) i ≡ none → (refusal_at psl_rules t i ≡ none → ⊥)
+    → a ≡ checked (refusal_at psl_rules t i) → a ≡ checked (lowest (refusal_at psl_rules t) (count t))
+lowest_answer t i {a} h e f d = go (refusal_at psl_rules t i) refl
+  where
+    go : (o : Option Refusal) → refusal_at psl_rules t i ≡ o → a ≡ checked (lowest (refusal_at psl_rules t) (count t))
+    go none z = absurd (f z)
+    go (some x) z = d ∙ ap checked (z ∙ sym (lowest-some (refusal_at psl_rules t) i (count t) x h e z))
+
+-- Such an answer is no success.
+pub refused_answer : (t : List ℕ) (i : ℕ) {a : Result (Unit {0}) Refusal} (P : Unit {0} → Type 0) → (refusal_at psl_rules t i ≡ none → ⊥) → a ≡ checked (refusal_at psl_rules t i) → IfOk a P
+refused_answer t i {a} P f d = go (refusal_at psl_rules t i) refl
+  where
+    go : (o : Option Refusal) → refusal_at psl_rules t i ≡ o → IfOk a P
+    go none z = absurd (f z)
+    go (some x) z = subst (λ (b : Result (Unit {0}) Refusal). IfOk b P) (sym (d ∙ ap checked z)) tt
 
 -- What the loop that counts knows at node i, c being the counts.
 module _ {t : List ℕ} {i : ℕ} {c : List ℕ} (T : Tallied t i c) (h : i < count t) (fine : refusal_at psl_rules t i ≡ none) where
@@ -169,25 +104,15 @@ module _ {t : List ℕ} {i : ℕ} {c : List ℕ} (T : Tallied t i c) (h : i < co
       let l : at < length c = omega (arith, T.for_nodes, named_in u n i (count t) f.low h) in
       (l, omega (arith, few, T.counts at l, uses-low t at i))
 
-  abbrev low-place : (u : Use) (n : ℕ) {b : Bool} (p : ℕ) → p ≡ coded u → Fits psl_rules u n i b → LowPlace p n i
-  low-place u n p e f = record { meant = u; is = e; low = f.low; few = omega (arith, few) }
-
-  pub left-room : (p : ℕ) → p ≡ coded left → CountRoom p (left_at t i) c
-  left-room p e =
-      let r = room left (left_at t i) sound.left in
-      record { user = i; place = low-place left (left_at t i) p e sound.left; inside = r.0; room = omega (arith, r.1) }
+  pub left-room : CountRoom left (left_at t i) c
+  left-room = let r = room left (left_at t i) sound.left in record { inside = r.0; room = omega (arith, r.1) }
 
   module _ (d : List ℕ) (L : Counted left (left_at t i) c d) where
-    pub right_room : (p : ℕ) → p ≡ coded right → CountRoom p (right_at t i) d
-    right_room p e =
+    pub right_room : CountRoom right (right_at t i) d
+    right_room =
         let at = operand_or right (right_at t i) 0 in
         let r = room right (right_at t i) sound.right in
-        record {
-          user = i;
-          place = low-place right (right_at t i) p e sound.right;
-          inside = omega (arith, r.0, L.same);
-          room = omega (arith, r.1, L.more at r.0, names_once left (left_at t i) at);
-        }
+        record { inside = omega (arith, r.0, L.same); room = omega (arith, r.1, L.more at r.0, names_once left (left_at t i) at) }
 
     pub tallied-next : (e : List ℕ) → Counted right (right_at t i) d e → Tallied t (i + 1) e
     unfolding total names_at
@@ -201,6 +126,22 @@ module _ {t : List ℕ} {i : ℕ} {c : List ℕ} (T : Tallied t i c) (h : i < co
               rw (add-one i) (omega (arith, R.more j (omega (arith, m, L.same)), L.more j m, T.counts j m));
         }
 
+-- The same of what the code read of the node: the uses u of its kind, and what its places hold.
+module _ (t : List ℕ) (i : ℕ) (u : Use × Use) (l r : ℕ) (eu : u ≡ shape_of psl_rules (kind_at t i)) (el : l ≡ left_at t i) (er : r ≡ right_at t i) where
+  module _ {c : List ℕ} (T : Tallied t i c) (h : i < count t) (fine : refusal_at psl_rules t i ≡ none) where
+    pub left_asked : CountRoom u.0 l c
+    left_asked = rw (eu, el) (left-room T h fine)
+
+    module _ (d : List ℕ) (L : Counted u.0 l c d) where
+      pub right_asked : CountRoom u.1 r d
+      right_asked = rw (eu, er) (right_room T h fine d (rw (eu, el) at L))
+
+      pub tallied_more : (x : List ℕ) → Counted u.1 r d x → Tallied t (i + 1) x
+      tallied_more x R = tallied-next T h fine d (rw (eu, el) at L) x (rw (eu, er) at R)
+
+  pub fast_by : {b : Bool} → b ≡ all_fit psl_rules u.0 l i (is_boolean psl_rules t l) && all_fit psl_rules u.1 r i (is_boolean psl_rules t r) → b ≡ Fast psl_rules t i
+  fast_by {b} d = rw (eu, el, er) at d
+
 -- ── The refusals after the nodes ──
 
 -- Node j by its count.
@@ -212,20 +153,20 @@ module _ {t c : List ℕ} (T : Tallied t (count t) c) (j : ℕ) (h : j < count t
   unfolding use_refusal
   used_once e = rw (eq-eqb (uses t j) 1 (sym (T.counts j in_counts) ∙ e))
 
-  pub misused : (get_or c j 0 ≡ 1 → ⊥) → use_refusal t j ≡ some (refused 7)
+  pub misused : (get_or c j 0 ≡ 1 → ⊥) → use_refusal t j ≡ some PslUse
   unfolding use_refusal
   misused e = rw (ne_eqb (uses t j) 1 (λ d. e (T.counts j in_counts ∙ d)))
 
 module _ (t : List ℕ) where
-  pub uses-refused : (j : ℕ) → j < count t - 1 → lowest (use_refusal t) j ≡ none → use_refusal t j ≡ some (refused 7) → tree_refusal t ≡ some (refused 7)
+  pub uses-refused : (j : ℕ) → j < count t - 1 → lowest (use_refusal t) j ≡ none → use_refusal t j ≡ some PslUse → tree_refusal t ≡ some PslUse
   unfolding tree_refusal
-  uses-refused j h e d = rw (lowest-some (use_refusal t) j (count t - 1) (refused 7) h e d)
+  uses-refused j h e d = rw (lowest-some (use_refusal t) j (count t - 1) PslUse h e d)
 
   module _ (j : ℕ) (z : j ≡ count t - 1) (e : lowest (use_refusal t) j ≡ none) where
     once : lowest (use_refusal t) (count t - 1) ≡ none
     once = subst (λ (m : ℕ). lowest (use_refusal t) m ≡ none) z e
 
-    pub root-refused : is_boolean psl_rules t (count t - 1) ≡ true → tree_refusal t ≡ some (refused 8)
+    pub root-refused : is_boolean psl_rules t (count t - 1) ≡ true → tree_refusal t ≡ some PslRoot
     unfolding tree_refusal root_refusal
     root-refused b = rw (once, b)
 
@@ -237,17 +178,21 @@ pub psl-first : (t : List ℕ) (x : Refusal) → table_refusal psl_rules t ≡ s
 unfolding psl_refusal
 psl-first t x e = rw e
 
--- Where a node is refused, what both tables share decides.
-pub psl_by_node : (t : List ℕ) (i : ℕ) → i < count t → (refusal_at psl_rules t i ≡ none → ⊥) → table_refusal psl_rules t ≡ psl_refusal t
-psl_by_node t i h stopped = go (table_refusal psl_rules t) refl
-  where
-    go : (o : Option Refusal) → table_refusal psl_rules t ≡ o → o ≡ psl_refusal t
-    go none e = absurd (stopped (node-none psl_rules t i (table_sound psl_rules t e i h)))
-    go (some x) e = sym (psl-first t x e)
-
 pub psl_then : (t : List ℕ) → table_refusal psl_rules t ≡ none → psl_refusal t ≡ tree_refusal t
 unfolding psl_refusal
 psl_then t e = rw e
+
+-- What the answer for the nodes says of the whole table.
+module _ (t : List ℕ) (e : length_fits psl_rules.most (length t) ≡ true) {a : Result (Unit {0}) Refusal} (d : a ≡ checked (lowest (refusal_at psl_rules t) (count t))) where
+  by_nodes : table_refusal psl_rules t ≡ lowest (refusal_at psl_rules t) (count t)
+  unfolding table_refusal
+  by_nodes = rw e
+
+  pub node_refused : {x : Refusal} → a ≡ Err x → Err x ≡ checked (psl_refusal t)
+  node_refused {x} f = sym (ap checked (psl-first t x (by_nodes ∙ was_refused _ a x d f)))
+
+  pub nodes_passed : {v : Unit {0}} → a ≡ Ok v → psl_refusal t ≡ tree_refusal t
+  nodes_passed f = psl_then t (by_nodes ∙ accepted _ a d f)
 
 -- ── What an accepted table is like, besides its nodes ──
 

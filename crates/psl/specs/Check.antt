@@ -1,8 +1,9 @@
 -- What the PSL check refuses.
+use Rattle.trace.specs.declared.refusal.Refusal.TheVariants.{PslLength, PslKind, PslUnused, PslSignal, PslOperand, PslSort, PslUse, PslRoot}
 use Rattle.std.specs.Prelude.{Bool, true, false, not, List, [], ◌∷◌, ℕ, zero, suc, ◌+◌, ◌-◌, eqb}
 use Rattle.std.proofs.Math.Option.{Option, none, some}
-use Rattle.trace.specs.declared.Refusal.{Refusal}
-use Rattle.trace.specs.Refusal.{refused, unless, or_else, lowest}
+use Rattle.trace.specs.declared.refusal.Refusal.{Refusal}
+use Rattle.trace.specs.Refusal.{unless, or_else, lowest}
 use Rattle.table.specs.Node.{count, kind_at, left_at, right_at}
 use Rattle.table.specs.Rules.{Use, unused, signal, operand, boolean, formula, Rules, shape_of}
 use Rattle.table.specs.Check.{is_boolean, table_refusal}
@@ -29,8 +30,8 @@ psl_rules =
           ∷ (formula, boolean)  -- 10 abort
           ∷ [];
       most = 1024;
-      numbers = record { length = 1; kind = 2; unused = 3; signal = 4; operand = 5 };
-      sorts = some record { booleans = boolean_kinds; number = 6 };
+      refusals = record { length = PslLength; kind = PslKind; unused = PslUnused; signal = PslSignal; operand = PslOperand };
+      sorts = some record { booleans = boolean_kinds; refusal = PslSort };
     }
 
 -- How often a place that holds n names node j: once or not at all.
@@ -59,11 +60,11 @@ uses t j = total (names_at t j) (count t)
 
 -- 7: a node that is not an operand exactly once.
 unfoldable pub use_refusal : List ℕ → ℕ → Option Refusal
-use_refusal t j = unless (eqb (uses t j) 1) (refused 7) none
+use_refusal t j = unless (eqb (uses t j) 1) PslUse none
 
 -- 8: the last node is a Boolean.
 unfoldable pub root_refusal : List ℕ → Option Refusal
-root_refusal t = unless (not (is_boolean psl_rules t (count t - 1))) (refused 8) none
+root_refusal t = unless (not (is_boolean psl_rules t (count t - 1))) PslRoot none
 
 -- After every node has passed: 7 for the lowest node but the last, then 8.
 unfoldable pub tree_refusal : List ℕ → Option Refusal

@@ -1,7 +1,8 @@
 -- What is proved of PSL tables, in one list.
 use Rattle.std.specs.Prelude.{◌≡◌, false, List, ℕ, ◌*◌, ◌≤◌, length}
 use Rattle.std.proofs.Math.Option.{none}
-use Rattle.table.specs.declared.Checked.{Checked}
+use Rattle.std.specs.Prelude.{Result}
+use Rattle.trace.specs.declared.refusal.Refusal.{Refusal}
 use Rattle.table.specs.Node.{count, numbers_of}
 use Rattle.logic.specs.Formula.{Formula}
 use Rattle.psl.specs.Size.{node_count}
@@ -12,7 +13,7 @@ use Rattle.psl.specs.Answer.{PslChecks}
 
 pub record Claims : Type 0 where
   -- The check has one answer for every table.
-  pub one_answer : (t : List ℕ) (r r' : Checked) → PslChecks t r → PslChecks t r' → r ≡ r'
+  pub one_answer : (t : List ℕ) (r r' : Result (Unit {0}) Refusal) → PslChecks t r → PslChecks t r' → r ≡ r'
   -- An accepted table has 1 to 1,024 nodes of three numbers each.
   pub sized : (t : List ℕ) → psl_refusal t ≡ none → (length t ≡ 3 * count t) × (1 ≤ count t) × (count t ≤ psl_rules.most)
   -- Its formula has as many nodes as the table.

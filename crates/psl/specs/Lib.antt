@@ -2,6 +2,9 @@ pub mod Size
 pub mod Table
 pub mod Closing
 pub mod Check
+pub mod Passes
+pub mod Kind
 pub mod Answer
+pub mod Accepted
 pub mod Claims
 pub mod Inner

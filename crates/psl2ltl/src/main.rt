@@ -4,8 +4,11 @@
 use std::process::ExitCode;
 
 fn main(rt: HostRuntime) -> ExitCode {
-    if turns::take_turns(&mut rt.stdin(), &mut rt.stdout(), &rt) {
-        return ExitCode::SUCCESS;
+    match turns::take_turns(&mut rt.stdin(), &mut rt.stdout()) {
+        Ok(()) => ExitCode::SUCCESS,
+        Err(e) => {
+            let _ = eprintln!(&rt; "psl2ltl: {e}");
+            ExitCode::FAILURE
+        }
     }
-    ExitCode::FAILURE
 }

@@ -1,41 +1,30 @@
--- The arms of the rows of a PSL table: what each tells, by what its node stands for.
-use mathlib.Core.Path.{◌≡◌, refl, sym, ap, ap₂, subst, ◌∙◌}
+-- The arms of the walks over a PSL table: what each asks of its operands, and what it answers on the empty trace.
+use mathlib.Core.Path.{◌≡◌, refl, sym, ap, ap₂, ◌∙◌}
 use mathlib.Core.Bool.{Bool, true, false, not, ◌&&◌}
 use mathlib.Core.Option.{none}
 use mathlib.Core.List.{List}
-use Prim.Native.Nat.{ℕ, zero, suc, ◌≤◌, ◌<◌}
+use Prim.Native.Nat.{ℕ, ◌≤◌, ◌<◌}
 use native.Mathlib.Omega.{arith}
-use native.Mathlib.Decide.{dec_lt}
-use Rattle.table.specs.Node.{count, kind_at, left_at}
+use Rattle.table.specs.Node.{count, kind_at}
 use Rattle.logic.specs.Formula.{BoolExpr, Formula, weak, fnot, fand, abort}
 use Rattle.psl.specs.Check.{psl_refusal}
-use Rattle.psl.specs.Inner.Parts.{boolean_at, formula_at}
+use Rattle.psl.specs.Inner.Parts.{formula_at}
 use Rattle.logic.specs.Empty.{on_empty}
-use Rattle.psl.proofs.AcceptedLaw.{Boolean, kind-known, is_weak, is_strong, is-next, is-until}
-use Rattle.logic.specs.Tree.{Ltl, lnot, land, lor}
-use Rattle.logic.specs.Translation.{tree_b}
-use Rattle.rows.specs.Inner.Rows.{Tells}
-use Rattle.psl_verdict.specs.Inner.Rows.{Marked, TellsFormula}
+use Rattle.psl.specs.declared.kind.Kind.{Kind}
+use Rattle.psl.specs.declared.kind.Kind.TheVariants.{True, Var, Bnot, Band, Weak, Strong, Not, And, Next, Until, Abort}
+use Rattle.psl.specs.Kind.{number}
+use Rattle.psl.proofs.AcceptedLaw.{Boolean, Formula as Operand, is_strong, is-next, is-until}
 
-pub as_boolean_lem : {lead loop : List ℕ} {w : ℕ} {b c : BoolExpr} → b ≡ c → Tells lead loop w (tree_b c) → Tells lead loop w (tree_b b)
-as_boolean_lem {lead} {loop} {w} e h = subst (λ (d : BoolExpr). Tells lead loop w (tree_b d)) (sym e) h
+-- What a node's kind says of its number.
+pub is : {k k' : Kind} {n : ℕ} → number k ≡ n → k ≡ k' → n ≡ number k'
+is e h = sym e ∙ ap number h
 
-pub as_formula_lem : {lead loop : List ℕ} {a r w : ℕ} {f g : Formula} → f ≡ g → TellsFormula lead loop g a r w → TellsFormula lead loop f a r w
-as_formula_lem {lead} {loop} {a} {r} {w} e h = subst (λ (d : Formula). TellsFormula lead loop d a r w) (sym e) h
+-- What a call asks of the node that place l names, an operand of node i.
+pub boolean_operand : (t : List ℕ) {i j l : ℕ} → i < count t → l ≡ j → Boolean t i j → (l < i) × ((l < count t) × (kind_at t l < 4))
+boolean_operand t h e b = rw e (b.0, (omega (arith, b.0, h), b.1))
 
--- A weak or a strong node, by its Boolean's row and the gate.
-pub record Literal (t : List ℕ) (i : ℕ) : Type 0 where
-  pub operand : Boolean t i (left_at t i)
-  pub tells : (lead loop : List ℕ) (a r w : ℕ)
-      → ((x y : Ltl) → Marked lead loop a r x y → Tells lead loop w (lor x (land (tree_b (boolean_at t (left_at t i))) (lnot y))))
-      → TellsFormula lead loop (formula_at t i) a r w
-
-pub literal-node : (t : List ℕ) → psl_refusal t ≡ none → (i : ℕ) → i < count t → 4 ≤ kind_at t i → kind_at t i < 6 → Literal t i
-literal-node t s i h lo hi = go (dec_lt (kind_at t i) 5)
-  where
-    go : Dec (kind_at t i < 5) → Literal t i
-    go (yes d) = let b = is_weak t s i h (omega arith) in record { operand = b.0; tells = λ lead loop a r w g. as_formula_lem b.1 g }
-    go (no d) = let b = is_strong t s i h (omega arith) in record { operand = b.0; tells = λ lead loop a r w g. as_formula_lem b.1 g }
+pub formula_operand : (t : List ℕ) {i j l : ℕ} → i < count t → l ≡ j → Operand t i j → (l < i) × ((l < count t) × (4 ≤ kind_at t l))
+formula_operand t h e b = rw e (b.0, (omega (arith, b.0, h), b.1))
 
 -- ── On the empty trace ──
 
@@ -59,24 +48,17 @@ unfolding on_empty
 empty-abort e h = empty_as e h
 
 -- A strong, a next and an until fail.
-pub empty-rest : (t : List ℕ) → psl_refusal t ≡ none → (i : ℕ) → i < count t → 4 ≤ kind_at t i → (kind_at t i ≡ 4 → ⊥) → (kind_at t i ≡ 6 → ⊥)
-    → (kind_at t i ≡ 7 → ⊥) → (kind_at t i ≡ 10 → ⊥) → false ≡ on_empty (formula_at t i)
+pub empty-rest : (t : List ℕ) → psl_refusal t ≡ none → (i : ℕ) → i < count t → 4 ≤ kind_at t i → (k : Kind) → number k ≡ kind_at t i
+    → (k ≡ Weak → ⊥) → (k ≡ Not → ⊥) → (k ≡ And → ⊥) → (k ≡ Abort → ⊥) → false ≡ on_empty (formula_at t i)
 unfolding on_empty
-empty-rest t s i h lo n4 n6 n7 n10 = go (kind_at t i) refl
-  where
-    known : kind_at t i < 11
-    known = kind-known t s i h
-
-    go : (k : ℕ) → kind_at t i ≡ k → false ≡ on_empty (formula_at t i)
-    go zero e = absurd (omega arith)
-    go (suc zero) e = absurd (omega arith)
-    go (suc (suc zero)) e = absurd (omega arith)
-    go (suc (suc (suc zero))) e = absurd (omega arith)
-    go (suc (suc (suc (suc zero)))) e = absurd (n4 e)
-    go (suc (suc (suc (suc (suc zero))))) e = empty_as (is_strong t s i h e).1 refl
-    go (suc (suc (suc (suc (suc (suc zero)))))) e = absurd (n6 e)
-    go (suc (suc (suc (suc (suc (suc (suc zero))))))) e = absurd (n7 e)
-    go (suc (suc (suc (suc (suc (suc (suc (suc zero)))))))) e = empty_as (is-next t s i h e).1 refl
-    go (suc (suc (suc (suc (suc (suc (suc (suc (suc zero))))))))) e = empty_as (is-until t s i h e).2 refl
-    go (suc (suc (suc (suc (suc (suc (suc (suc (suc (suc zero)))))))))) e = absurd (n10 e)
-    go (suc (suc (suc (suc (suc (suc (suc (suc (suc (suc (suc k))))))))))) e = absurd (omega (arith, known))
+empty-rest t s i h lo True e a b c d = absurd (omega (arith, e))
+empty-rest t s i h lo Var e a b c d = absurd (omega (arith, e))
+empty-rest t s i h lo Bnot e a b c d = absurd (omega (arith, e))
+empty-rest t s i h lo Band e a b c d = absurd (omega (arith, e))
+empty-rest t s i h lo Weak e a b c d = absurd (a refl)
+empty-rest t s i h lo Strong e a b c d = empty_as (is_strong t s i h (sym e)).1 refl
+empty-rest t s i h lo Not e a b c d = absurd (b refl)
+empty-rest t s i h lo And e a b c d = absurd (c refl)
+empty-rest t s i h lo Next e a b c d = empty_as (is-next t s i h (sym e)).1 refl
+empty-rest t s i h lo Until e a b c d = empty_as (is-until t s i h (sym e)).2 refl
+empty-rest t s i h lo Abort e a b c d = absurd (d refl)

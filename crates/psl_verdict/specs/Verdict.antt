@@ -1,8 +1,7 @@
 -- What each answer of the PSL verdict says.
 use Rattle.std.proofs.Math.Option.{Option}
-use Rattle.std.specs.Prelude.{List, ℕ}
-use Rattle.trace.specs.declared.Refusal.{Refusal}
-use Rattle.trace.specs.declared.Verdict.{Verdict}
+use Rattle.std.specs.Prelude.{Bool, List, ℕ, Result}
+use Rattle.trace.specs.declared.refusal.Refusal.{Refusal}
 use Rattle.trace.specs.Refusal.{or_else}
 use Rattle.trace.specs.Verdict.{long_refusal, Judges}
 use Rattle.logic.specs.Meaning.{HoldsOn}
@@ -14,5 +13,5 @@ unfoldable pub psl_verdict_refusal : List ℕ → List ℕ → List ℕ → Opti
 psl_verdict_refusal t lead loop = or_else (psl_refusal t) (long_refusal lead loop)
 
 -- Whether the formula of the table holds on the trace, by the PSL meaning.
-abbrev pub PslJudges : List ℕ → List ℕ → List ℕ → Verdict → Type 0
+abbrev pub PslJudges : List ℕ → List ℕ → List ℕ → Result Bool Refusal → Type 0
 PslJudges t lead loop v = Judges (psl_verdict_refusal t lead loop) (HoldsOn (formula_of t) lead loop) v

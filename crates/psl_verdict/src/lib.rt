@@ -1,148 +1,118 @@
 // The PSL verdict.
 #![tactic(auto)]
 
-ghost use Rattle.std.specs.Prelude.{◌≡◌, ◌↔◌, List, ℕ, ◌<◌, ◌≤◌, T, length};
-ghost use Rattle.std.proofs.Math.Option.{none};
-ghost use Rattle.logic.specs.Letter.{signals};
+ghost use Rattle.std.specs.Prelude.{◌≡◌, ◌↔◌, ◌<◌, ◌≤◌, T};
 ghost use Rattle.trace.specs.Limits.{most_letters};
 ghost use Rattle.logic.specs.Trace.{size};
 ghost use Rattle.table.specs.Node.{count, kind_at};
 ghost use Rattle.logic.specs.Meaning.{HoldsOn};
 ghost use Rattle.psl.specs.Table.{formula_of};
 ghost use Rattle.psl.specs.Inner.Parts.{boolean_at, formula_at};
-ghost use Rattle.psl.specs.Check.{boolean_kinds, psl_refusal};
+ghost use Rattle.psl.specs.Check.{boolean_kinds};
 ghost use Rattle.logic.specs.Empty.{on_empty};
 ghost use Rattle.logic.specs.Translation.{tree_b};
-ghost use Rattle.rows.specs.Inner.Rows.{Tells, FitsRow};
-ghost use Rattle.psl_verdict.specs.Inner.Rows.{TellsFormula, SignalRows};
+ghost use Rattle.rows.specs.Inner.Rows.{TellsOn};
+ghost use Rattle.psl_verdict.specs.Inner.Rows.{TellsFormula};
 ghost use Rattle.psl_verdict.specs.Verdict.{PslJudges};
 
-use logic::{Letter, SIGNALS};
-use rows::{ALWAYS, Row};
-use table::{Checked, NodeNo};
-use trace::{MOST_LETTERS, Refusal, Verdict, decided};
+use psl::{Kind, PslTable};
+use rows::{ALWAYS, Row, SignalRows};
+use table::NodeNo;
+use trace::{MOST_LETTERS, Refusal, TraceView, Verdict};
 
-// A row for each signal.
-const ROWS: usize = SIGNALS as usize;
-
-// The rows of the signals that a table names.
-fn signal_rows(t: &[u16], lead: &[Letter], cycle: &[Letter], vars: &mut [Row])
-    requires { (psl_refusal t.now ≡ none) × FitsRow lead.now cycle.now × (signals ≤ length vars.old) }
-    ensures { SignalRows lead.now cycle.now t.now vars.new }
+// The row of a Boolean.
+fn boolean_row(t: PslTable<'_>, i: NodeNo, signals: &mut SignalRows<'_>) -> Row
+    requires { (i.0 < count t.numbers.now) × (kind_at t.numbers.now i.0 < boolean_kinds) }
+    ensures same_trace { signals.new.trace ≡ signals.old.trace }
+    ensures tells { TellsOn signals.old.trace result (tree_b (boolean_at t.entry.numbers.now i.0)) }
 {
-    let n = t.len() / 3;
-    let mut known: Letter = 0;
-    let mut i: usize = 0;
-    while i < n {
-        if t[3 * i] == psl::VAR {
-            known = rows::learn(t[3 * i + 1], known, &mut *vars, lead, cycle);
+    let node = t.node(i);
+    let left = NodeNo(node.left);
+    match node.kind {
+        Kind::True => ALWAYS,
+        Kind::Var => signals.row(node.left),
+        Kind::Bnot => !boolean_row(t, left, signals),
+        Kind::Band => {
+            boolean_row(t, left, signals) & boolean_row(t, NodeNo(node.right), signals)
         }
-        i += 1;
+        _ => unreachable!(),
     }
 }
 
-// The row of a Boolean, by the rows of its signals.
-fn boolean_row(t: &[u16], i: NodeNo, vars: &[Row; ROWS]) -> Row
-    requires { (psl_refusal t.now ≡ none) × (i.0 < count t.now) × (kind_at t.now i.0 < boolean_kinds) }
-    ensures { (lead loop : List ℕ) → FitsRow lead loop → SignalRows lead loop t.now vars.now
-        → Tells lead loop result (tree_b (boolean_at t.now i.0)) }
+// The row of a formula's translation, by the rows of accept and reject.
+// These stay two parameters: one struct for both made the typical verdict 6% slower.
+fn formula_row(t: PslTable<'_>, i: NodeNo, a: Row, r: Row, signals: &mut SignalRows<'_>) -> Row
+    requires { (i.0 < count t.numbers.now) × (boolean_kinds ≤ kind_at t.numbers.now i.0) }
+    ensures same_trace { signals.new.trace ≡ signals.old.trace }
+    ensures tells { TellsFormula signals.old.trace (formula_at t.entry.numbers.now i.0) a r result }
 {
-    let at = 3 * (i.0 as usize);
-    let kind = t[at];
-    let left = t[at + 1];
-    let right = t[at + 2];
-    match kind {
-        psl::TRUE => ALWAYS,
-        psl::VAR => vars[left as usize],
-        psl::BNOT => !boolean_row(t, NodeNo(left), vars),
-        _ => boolean_row(t, NodeNo(left), vars) & boolean_row(t, NodeNo(right), vars),
+    let node = t.node(i);
+    let left = NodeNo(node.left);
+    let right = NodeNo(node.right);
+    match node.kind {
+        Kind::Weak | Kind::Strong => rows::gate(a, boolean_row(t, left, signals), r),
+        Kind::Not => !formula_row(t, left, r, a, signals),
+        Kind::And => formula_row(t, left, a, r, signals) & formula_row(t, right, a, r, signals),
+        Kind::Next => {
+            let x = formula_row(t, left, a, r, signals);
+            rows::gate(a, rows::next_row(x, signals.trace), r)
+        }
+        Kind::Until => {
+            let x = formula_row(t, left, a, r, signals);
+            let y = formula_row(t, right, a, r, signals);
+            rows::until_row(x, y, signals.trace)
+        }
+        Kind::Abort => {
+            let b = boolean_row(t, right, signals);
+            formula_row(t, left, rows::gate(a, b, r), r, signals)
+        }
+        _ => unreachable!(),
     }
 }
 
-// The row of a formula's translation, by the rows of accept and reject and of its signals; the trace's loop has `period` letters.
-fn formula_row(t: &[u16], i: NodeNo, a: Row, r: Row, vars: &[Row; ROWS], period: usize) -> Row
-    requires { (psl_refusal t.now ≡ none) × (i.0 < count t.now) × (boolean_kinds ≤ kind_at t.now i.0) }
-    ensures { (lead loop : List ℕ) → FitsRow lead loop → length loop ≡ period → SignalRows lead loop t.now vars.now
-        → TellsFormula lead loop (formula_at t.now i.0) a r result }
+// A formula on the empty trace: a strong, a next and an until fail.
+fn on_empty(t: PslTable<'_>, i: NodeNo) -> bool
+    requires { (i.0 < count t.numbers.now) × (boolean_kinds ≤ kind_at t.numbers.now i.0) }
+    ensures { result ≡ on_empty (formula_at t.entry.numbers.now i.0) }
 {
-    let at = 3 * (i.0 as usize);
-    let kind = t[at];
-    let left = NodeNo(t[at + 1]);
-    let right = NodeNo(t[at + 2]);
-    // weak, strong
-    if kind < psl::NOT {
-        return rows::gate(a, boolean_row(t, left, vars), r);
-    }
-    match kind {
-        psl::NOT => !formula_row(t, left, r, a, vars, period),
-        psl::AND => formula_row(t, left, a, r, vars, period)
-            & formula_row(t, right, a, r, vars, period),
-        psl::NEXT => {
-            let x = formula_row(t, left, a, r, vars, period);
-            rows::gate(a, rows::next_row(x, period), r)
-        }
-        psl::UNTIL => {
-            let x = formula_row(t, left, a, r, vars, period);
-            let y = formula_row(t, right, a, r, vars, period);
-            rows::until_row(x, y, period)
-        }
-        _ => {
-            let b = boolean_row(t, right, vars);
-            formula_row(t, left, rows::gate(a, b, r), r, vars, period)
-        }
-    }
-}
-
-// A formula on the empty trace.
-fn on_empty(t: &[u16], i: NodeNo) -> bool
-    requires { (psl_refusal t.now ≡ none) × (i.0 < count t.now) × (boolean_kinds ≤ kind_at t.now i.0) }
-    ensures { result ≡ on_empty (formula_at t.now i.0) }
-{
-    let at = 3 * (i.0 as usize);
-    let kind = t[at];
-    let left = NodeNo(t[at + 1]);
-    let right = NodeNo(t[at + 2]);
-    match kind {
-        psl::WEAK => true,
-        psl::NOT => !on_empty(t, left),
-        psl::AND => on_empty(t, left) & on_empty(t, right),
-        psl::ABORT => on_empty(t, left),
+    let node = t.node(i);
+    let left = NodeNo(node.left);
+    match node.kind {
+        Kind::Weak => true,
+        Kind::Not => !on_empty(t, left),
+        Kind::And => on_empty(t, left) & on_empty(t, NodeNo(node.right)),
+        Kind::Abort => on_empty(t, left),
         _ => false,
     }
 }
 
-// Whether an accepted PSL table holds on a trace: the translation's row, with nothing accepted or rejected yet.
-fn psl_holds(t: &[u16], lead: &[Letter], cycle: &[Letter]) -> bool
-    requires { (psl_refusal t.now ≡ none) × (size lead.now cycle.now ≤ most_letters) }
-    ensures { HoldsOn (formula_of t.now) lead.now cycle.now ↔ T result }
+// Whether an accepted table holds on a trace: the translation's row, with nothing accepted or rejected yet.
+fn psl_holds(t: PslTable<'_>, trace: TraceView<'_>) -> bool
+    requires { size trace.lead.now trace.cycle.now ≤ most_letters }
+    ensures { HoldsOn (formula_of t.entry.numbers.now) trace.entry.lead.now trace.entry.cycle.now ↔ T result }
 {
-    let root = NodeNo((t.len() / 3 - 1) as u16);
-    let letters = lead.len() + cycle.len();
-    if letters == 0 {
+    let root = t.root();
+    if trace.size() == 0 {
         return on_empty(t, root);
     }
-    let mut vars = [0u64; ROWS];
-    signal_rows(t, lead, cycle, &mut vars);
-    rows::holds_first(formula_row(t, root, 0, 0, &vars, cycle.len()), letters)
+    let mut signals = SignalRows::new(trace);
+    rows::holds_first(formula_row(t, root, 0, 0, &mut signals), trace)
 }
 
 // The PSL verdict on an accepted table: refusal 9, then yes or no.
-pub fn judge_psl(t: &[u16], lead: &[Letter], cycle: &[Letter]) -> Verdict
-    requires { psl_refusal t.now ≡ none }
-    ensures { PslJudges t.now lead.now cycle.now result }
+// It stays beside judge_ltl, which also refuses the empty trace: a trait for both would name each step that they do not share.
+pub fn judge_psl(t: PslTable<'_>, trace: TraceView<'_>) -> Verdict
+    ensures { PslJudges t.entry.numbers.now trace.entry.lead.now trace.entry.cycle.now result }
 {
-    if MOST_LETTERS < lead.len() + cycle.len() {
-        return Verdict::Refused(Refusal(9));
+    if MOST_LETTERS < trace.size() {
+        return Err(Refusal::LongTrace);
     }
-    decided(psl_holds(t, lead, cycle))
+    Ok(psl_holds(t, trace))
 }
 
 // Refusals 1 to 8, then 9.
-pub fn psl_verdict(t: &[u16], lead: &[Letter], cycle: &[Letter]) -> Verdict
-    ensures { PslJudges t.now lead.now cycle.now result }
+pub fn psl_verdict(t: &[u16], trace: TraceView<'_>) -> Verdict
+    ensures { PslJudges t.now trace.entry.lead.now trace.entry.cycle.now result }
 {
-    match psl::check_psl(t) {
-        Checked::Refused(x) => Verdict::Refused(x),
-        Checked::Accepted => judge_psl(t, lead, cycle),
-    }
+    judge_psl(PslTable::new(t)?, trace)
 }

@@ -1,16 +1,16 @@
 // What the programs of cases print.
 #![tactic(auto)]
 
+use std::fmt::Display;
 use std::io;
 
 // A line: a name and a number.
-pub fn say(rt: &impl Print, name: &[u8], x: u64) -> io::Result<()> {
-    rt.write_all(name)?;
-    println!(rt; " {x}")
+pub fn say(rt: &impl Print, name: &str, x: u64) -> io::Result<()> {
+    println!(rt; "{name} {x}")
 }
 
 // A line of numbers.
-pub fn show(rt: &impl Print, l: &[u16]) -> io::Result<()> {
+pub fn show<T: Display>(rt: &impl Print, l: &[T]) -> io::Result<()> {
     for x in l {
         print!(rt; "{x} ")?;
     }
@@ -18,8 +18,8 @@ pub fn show(rt: &impl Print, l: &[u16]) -> io::Result<()> {
 }
 
 // A line: a name and letters.
-pub fn show_letters(rt: &impl Print, name: &[u8], l: &[u32]) -> io::Result<()> {
-    rt.write_all(name)?;
+pub fn show_letters<T: Display>(rt: &impl Print, name: &str, l: &[T]) -> io::Result<()> {
+    print!(rt; "{name}")?;
     for x in l {
         print!(rt; " {x}")?;
     }

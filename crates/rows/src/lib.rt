@@ -1,16 +1,18 @@
 // Rows: the truths of an LTL tree at all moments of a trace, in one word. not, and, or are one operation of the machine; RowLaw has what they tell.
 #![tactic(auto)]
 
-ghost use Rattle.std.specs.Prelude.{◌≡◌, ℕ, ◌<◌, ◌≤◌, T, ◌↔◌, List, ◌++◌, length, ◌≢◌};
+ghost use Rattle.std.specs.Prelude.{◌≡◌, ℕ, ◌<◌, ◌≤◌, T, ◌↔◌, List, ◌++◌, ◌≢◌};
 ghost use Rattle.logic.specs.Letter.{bit, signals};
-ghost use Rattle.logic.specs.Trace.{size};
 ghost use Rattle.logic.specs.Tree.{Ltl, lvar, lnot, land, lor, lnext, luntil};
 ghost use Rattle.logic.specs.LtlMeaning.{LtlHoldsOn};
-ghost use Rattle.rows.specs.Inner.Rows.{Tells, FitsRow, SignalIn, Learns, Swept, TellsNode};
+ghost use Rattle.trace.specs.declared.TraceView.{TraceView};
+ghost use Rattle.ltl.specs.declared.kind.Kind.TheVariants.{Var};
+ghost use Rattle.ltl.specs.Kind.{number};
+ghost use Rattle.rows.specs.Inner.Rows.{FitsRow, TellsOn, SignalIn, SignalsIn, Swept, TellsNode};
 
 use logic::{Letter, SIGNALS};
-use std::num::{wrapping_add_u64, wrapping_sub_usize};
-use trace::MOST_LETTERS;
+use ltl::Kind;
+use trace::{MOST_LETTERS, TraceView};
 
 // The last letter of both lists has the lowest bit, the one before it the next, and so on; bits past the first letter may hold anything. So what
 // follows a moment is one bit lower, and nothing has to be masked out. A shift is taken modulo the word's length, so that no caller has to
@@ -26,54 +28,74 @@ fn signal_after(before: Row, s: &[Letter], k: u16) -> Row
     ensures { (t : List ℕ) → SignalIn t k before → SignalIn (t ++ s.now) k result }
 {
     let mut w = before;
-    let mut i: usize = 0;
-    while i < s.len() {
-        w = (w << 1) | (((s[i] >> k) & 1) as Row);
-        i += 1;
+    for letter in s {
+        w = (w << 1) | Row::from((letter >> k) & 1);
     }
     w
 }
 
 // The row of signal k.
-fn signal_row(lead: &[Letter], cycle: &[Letter], k: u16) -> Row
+fn signal_row(trace: TraceView<'_>, k: u16) -> Row
     requires { k < signals }
-    ensures { FitsRow lead.now cycle.now → Tells lead.now cycle.now result (lvar k) }
+    ensures { SignalIn (trace.entry.lead.now ++ trace.entry.cycle.now) k result }
 {
-    signal_after(signal_after(0, lead, k), cycle, k)
+    signal_after(signal_after(0, trace.lead, k), trace.cycle, k)
 }
 
-// Signal k becomes known: its row is made where it is not there yet. The answer is the signals that are known then.
-pub fn learn(k: u16, known: Letter, rows: &mut [Row], lead: &[Letter], cycle: &[Letter]) -> Letter
-    ensures { Learns lead.now cycle.now k known rows.old result rows.new }
-{
-    let s = k % SIGNALS;
-    if (known >> s) & 1 == 1 {
-        return known;
+// A row for each signal.
+const ROWS: usize = SIGNALS as usize;
+
+// The rows of a trace's signals. Each is made when it is first asked for.
+#[derive(Drop)]
+pub struct SignalRows<'a> {
+    pub trace: TraceView<'a>,
+    rows: [Option<Row>; ROWS],
+    ghost told: { SignalsIn (trace.lead.now ++ trace.cycle.now) rows },
+}
+
+impl<'a> SignalRows<'a> {
+    // No row is there yet.
+    pub fn new(trace: TraceView<'a>) -> SignalRows<'a>
+        ensures { result.trace ≡ trace.entry }
+    {
+        SignalRows {
+            trace,
+            rows: [None; ROWS],
+        }
     }
-    let at = s as usize;
-    if rows.len() <= at {
-        return known;
+
+    // The row of signal k, modulo the number of signals.
+    pub fn row(&mut self, k: u16) -> Row
+        ensures same_trace { self.new.trace ≡ self.old.trace }
+        ensures tells { k < signals → TellsOn self.old.trace result (lvar k) }
+    {
+        let s = k % SIGNALS;
+        let at = usize::from(s);
+        match self.rows[at] {
+            Some(row) => row,
+            None => {
+                let row = signal_row(self.trace, s);
+                self.rows[at] = Some(row);
+                row
+            }
+        }
     }
-    rows[at] = signal_row(lead, cycle, s);
-    known | (1 << s)
 }
 
 // What accept row a and reject row r make of row b: a or (b and not r).
 pub fn gate(a: Row, b: Row, r: Row) -> Row
-    ensures { (lead loop : List ℕ) (x y z : Ltl) → FitsRow lead loop → Tells lead loop a x → Tells lead loop b y → Tells lead loop r z
-        → Tells lead loop result (lor x (land y (lnot z))) }
+    ensures { (t : TraceView) (x y z : Ltl) → TellsOn t a x → TellsOn t b y → TellsOn t r z → TellsOn t result (lor x (land y (lnot z))) }
 {
     a | (b & !r)
 }
 
-// The row of next, where the loop has so many letters, 0 for none: each bit from the one below it, and the lowest from the loop's first.
-pub fn next_row(a: Row, period: usize) -> Row
-    ensures { (lead loop : List ℕ) (x : Ltl) → FitsRow lead loop → length loop ≡ period → Tells lead loop a x → Tells lead loop result (lnext x) }
+// The row of next: each bit from the one below it, and on a loop the lowest from the loop's first letter.
+pub fn next_row(a: Row, trace: TraceView<'_>) -> Row
+    ensures { (x : Ltl) → TellsOn trace.entry a x → TellsOn trace.entry result (lnext x) }
 {
-    if period == 0 {
-        a << 1
-    } else {
-        (a << 1) | ((a >> ((period - 1) % MOST_LETTERS)) & 1)
+    match trace.cycle.len().checked_sub(1) {
+        None => a << 1,
+        Some(start) => (a << 1) | ((a >> (start % MOST_LETTERS)) & 1),
     }
 }
 
@@ -82,59 +104,40 @@ pub fn next_row(a: Row, period: usize) -> Row
 fn sweep(f: Row, g: Row, carry: Row) -> Row
     ensures { Swept f g (bit carry 0) result }
 {
-    let sum = wrapping_add_u64(wrapping_add_u64(f | g, g), carry & 1);
+    let sum = (f | g).wrapping_add(g).wrapping_add(carry & 1);
     g | (f & !sum)
 }
 
-// The row of until, where the loop has so many letters, 0 for none: from no, and on a loop again from what that says of the loop's start.
-pub fn until_row(f: Row, g: Row, period: usize) -> Row
-    ensures { (lead loop : List ℕ) (x y : Ltl) → FitsRow lead loop → length loop ≡ period
-        → Tells lead loop f x → Tells lead loop g y → Tells lead loop result (luntil x y) }
+// The row of until: from no, and on a loop again from what that says of the loop's start.
+pub fn until_row(f: Row, g: Row, trace: TraceView<'_>) -> Row
+    ensures { (x y : Ltl) → TellsOn trace.entry f x → TellsOn trace.entry g y → TellsOn trace.entry result (luntil x y) }
 {
     let once = sweep(f, g, 0);
-    if period == 0 {
-        once
-    } else {
-        sweep(f, g, once >> ((period - 1) % MOST_LETTERS))
+    match trace.cycle.len().checked_sub(1) {
+        None => once,
+        Some(start) => sweep(f, g, once >> (start % MOST_LETTERS)),
     }
 }
 
-// The row of not, and, or. Most nodes are one of the three: two tests in front of the jump by the kind measured faster than that jump alone.
-fn logic_row(k: u16, a: Row, b: Row) -> Row
-    requires { (2 ≤ k) × (k < 5) }
-    ensures { (lead loop : List ℕ) (l : ℕ) → FitsRow lead loop → TellsNode lead loop k l a b result }
+// The row of an LTL node of a kind that is not a signal's, by its operands' rows a and b.
+pub fn node_row(kind: Kind, a: Row, b: Row, trace: TraceView<'_>) -> Row
+    ensures { (l : ℕ) → FitsRow trace.entry.lead.now trace.entry.cycle.now → (kind ≢ Var)
+        → TellsNode trace.entry.lead.now trace.entry.cycle.now (number kind) l a b result }
 {
-    if k == ltl::AND {
-        return a & b;
-    }
-    if k == ltl::OR {
-        return a | b;
-    }
-    !a
-}
-
-// The row of an LTL node of kind k, not a signal's, by its operands' rows a and b.
-pub fn node_row(k: u16, a: Row, b: Row, period: usize) -> Row
-    ensures { (lead loop : List ℕ) (l : ℕ) → FitsRow lead loop → length loop ≡ period → (k ≢ 1) → TellsNode lead loop k l a b result }
-{
-    // true
-    if k < ltl::NOT {
-        return ALWAYS;
-    }
-    // not, and, or
-    if k < ltl::NEXT {
-        return logic_row(k, a, b);
-    }
-    match k {
-        ltl::NEXT => next_row(a, period),
-        ltl::UNTIL => until_row(a, b, period),
-        _ => ALWAYS,
+    match kind {
+        Kind::True | Kind::Var => ALWAYS,
+        Kind::Not => !a,
+        Kind::And => a & b,
+        Kind::Or => a | b,
+        Kind::Next => next_row(a, trace),
+        Kind::Until => until_row(a, b, trace),
     }
 }
 
-// Whether a tree holds on a trace of so many letters, by its row: its truth at moment 0.
-pub fn holds_first(w: Row, letters: usize) -> bool
-    ensures { (lead loop : List ℕ) (x : Ltl) → FitsRow lead loop → size lead loop ≡ letters → Tells lead loop w x → LtlHoldsOn x lead loop ↔ T result }
+// Whether a tree holds on a trace, by its row: its truth at moment 0.
+pub fn holds_first(w: Row, trace: TraceView<'_>) -> bool
+    ensures { (x : Ltl) → FitsRow trace.entry.lead.now trace.entry.cycle.now → TellsOn trace.entry w x
+        → LtlHoldsOn x trace.entry.lead.now trace.entry.cycle.now ↔ T result }
 {
-    (w >> (wrapping_sub_usize(letters, 1) % MOST_LETTERS)) & 1 == 1
+    (w >> (trace.size().wrapping_sub(1) % MOST_LETTERS)) & 1 == 1
 }

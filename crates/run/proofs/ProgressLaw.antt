@@ -1,178 +1,165 @@
--- What each step of a run keeps of the relation between the input taken, the output and the state.
+-- What each step of a run keeps of the relation between the input taken, the output and the run.
 use mathlib.Core.Path.{◌≡◌, refl, ap, sym, subst, ◌∙◌}
 use mathlib.Core.Logic.{inl}
 use mathlib.Core.Bool.{Bool, true, false}
 use mathlib.Core.List.{List, [], ◌∷◌, ◌++◌, append_assoc, append-nil}
-use Prim.Native.Nat.{ℕ, suc, ◌+◌, ◌*◌, ◌-◌, ◌<◌, ◌≤◌}
+use Prim.Native.Nat.{ℕ, suc, ◌+◌, ◌-◌, ◌<◌}
 use native.Mathlib.Omega.{arith}
-use native.Mathlib.Numerals.{add-one}
-use borrow.Author.Tests.{ltb-true, ltb-false, ne_eqb}
-use lib.Dec.{ltb}
-use lib.ListN.{length, take, length-append, length-take}
-use lib.Seq.{take_all, take-suc-set, take-append-le, length-take-le}
+use borrow.Author.Tests.{ne_eqb}
+use lib.ListN.{length, take, length-append}
+use Rattle.std.specs.Prelude.{Result, Ok, Err}
+use Rattle.trace.specs.declared.refusal.Refusal.{Refusal}
 use Rattle.table.specs.Node.{◌▸◌}
+use Rattle.logic.specs.Formula.{Formula}
 use Rattle.translate.specs.Emitted.{emitted}
 use Rattle.text.specs.Limits.{most_bytes}
-use Rattle.answers.specs.Input.{ended_after, open_after, ended_lines, open_line, input_lines}
+use Rattle.text.proofs.ReadingLaw.{takes-cut, refuses-cut}
 use Rattle.printing.specs.Printed.{table_text}
+use Rattle.answers.specs.Input.{ended_after, open_after, ended_lines, open_line, input_lines}
 use Rattle.answers.specs.Answer.{LaterAnswer, later_text}
 use Rattle.answers.specs.Whole.{Prints, Runs}
-use Rattle.answers.specs.Inner.{kept_bytes, FirstAnswer}
-use Rattle.line_one.specs.Inner.{first_text, Remembers, FirstDone}
-use Rattle.run.specs.Inner.{PrintedSoFar, Going, GoingOrOver, LaterDone, Keeps}
-use Rattle.answers.specs.declared.First.{First}
+use Rattle.answers.specs.Inner.{kept_bytes, TablesOf}
+use Rattle.answers.specs.declared.Verdicts.{Verdicts}
 use Rattle.answers.proofs.CutLaw.{ended_end, open_end, ended-byte, open_byte, last-ends, only_line, no_last, some-ended, all_ended}
-use Rattle.answers.proofs.WholeLaw.{printed, first-kept, later_kept, refused-runs, traces-more}
-use Rattle.state.specs.declared.State.{State}
+use Rattle.answers.proofs.WholeLaw.{later_kept, refused-runs, traces-more}
+use Rattle.line_one.specs.Inner.{FirstAnswer}
+use Rattle.line_one.specs.declared.Tables.{Tables}
+use Rattle.run.specs.Inner.{Starts, goes, goes_on, Stores, PrintedSoFar, Going, GoingOrOver, FirstDone, Kept}
+use Rattle.run.specs.declared.Stage.{Stage}
+use Rattle.run.specs.declared.Stage.TheVariants.{First, Later, Ended}
+use Rattle.run.specs.declared.Run.{Run}
+use Rattle.text.proofs.WriterLaw.{put_join}
+
+pub never : {b : Bool} → b ≡ true → b ≡ false → ⊥
+never {b} p q = let z : ◌≡◌ {A = ℕ} 0 1 = cc in omega arith
 
 -- ── Nothing is taken yet ──
 
-pub going_start : {line psl ltl : List ℕ} (s : State) → s.number ≡ 1 → s.filled ≡ 0 → Going [] [] s line psl ltl
+pub going_start : (s : Run) → Starts s → Going [] [] s
 unfolding ended_after open_after
-going_start {line} s n f = record { counted = n; kept = ap (λ (k : ℕ). take k line) f; printed = refl }
+going_start s (stage, number, line, out) = record { counted = number; kept = line; printed = (stage, refl) }
 
--- ── What the relation speaks of ──
+-- ── A byte of a line ──
 
-printed-same : (ls : List (List ℕ)) (out psl ltl : List ℕ) (s r : State) → r.psl_nodes ≡ s.psl_nodes → r.ltl_nodes ≡ s.ltl_nodes → PrintedSoFar ls out s psl ltl → PrintedSoFar ls out r psl ltl
-printed-same [] out psl ltl s r n z t = t
-printed-same (l ∷ ls) out psl ltl s r n z (f, rest, a, b, c, d) = (f, rest, a, rw (n, z) b, c, d)
-
-module _ {read out line psl ltl : List ℕ} (s r : State) (g : Going read out s line psl ltl) (num : r.number ≡ s.number) (nodes : r.psl_nodes ≡ s.psl_nodes)
-    (size : r.ltl_nodes ≡ s.ltl_nodes) where
-  pub going-same : r.filled ≡ s.filled → Going read out r line psl ltl
-  going-same filled =
-      record {
-        counted = num ∙ g.counted;
-        kept = ap (λ (k : ℕ). take k line) filled ∙ g.kept;
-        printed = printed-same (ended_lines read) out psl ltl s r nodes size g.printed;
-      }
-
-  -- ── A byte of a line ──
-
-  pub going-byte : (b : ℕ) (line' : List ℕ) → (b ≡ 10 → ⊥) → length line ≡ kept_bytes → s.filled ≤ kept_bytes → Keeps s.filled b line line' r.filled
-      → Going (read ▸ b) out r line' psl ltl
-  going-byte b line' ne room h keeps =
-      let other = ne_eqb b 10 ne in
-      let ended = ended-byte b other read [] in
-      record {
-        counted = num ∙ g.counted ∙ ap (λ (ls : List (List ℕ)). 1 + length ls) (sym ended);
-        kept = kept_byte (open_line read) s.filled r.filled room h g.kept keeps ∙ ap (take kept_bytes) (sym (open_byte b other read []));
-        printed = subst (λ (ls : List (List ℕ)). PrintedSoFar ls out r psl ltl) (sym ended) (printed-same (ended_lines read) out psl ltl s r nodes size g.printed);
-      }
-    where
-      -- The kept bytes of a line that has a byte more.
-      kept_byte : (o : List ℕ) (at next : ℕ) → length line ≡ kept_bytes → at ≤ kept_bytes → take at line ≡ take kept_bytes o → Keeps at b line line' next
-          → take next line' ≡ take kept_bytes (o ▸ b)
-      kept_byte o at next room h e (more, full) = go (ltb at kept_bytes) refl
-        where
-          go : (t : Bool) → ltb at kept_bytes ≡ t → take next line' ≡ take kept_bytes (o ▸ b)
-          go true t =
-              let low = ltb-true at kept_bytes t in
-              let (p, q) = more (omega arith) in
-              let few : length o < kept_bytes = omega (arith, length-take kept_bytes o, ap length e, length-take-le at line (omega arith)) in
-              let all : take kept_bytes o ≡ o = take_all kept_bytes o (omega arith) in
-              ap (λ (k : ℕ). take k line') (q ∙ add-one at)
-              ∙ ap (take (suc at)) p
-              ∙ take-suc-set line at b (omega arith)
-              ∙ ap (λ (x : List ℕ). x ▸ b) (e ∙ all)
-              ∙ sym (take_all kept_bytes (o ▸ b) (omega (arith, length-append o (b ∷ []))))
-          go false t =
-              let high = ltb-false at kept_bytes t in
-              let (p, q) = full (omega arith) in
-              let many : kept_bytes ≤ length o = omega (arith, length-take kept_bytes o, ap length e, length-take-le at line (omega arith)) in
-              ap (λ (k : ℕ). take k line') q ∙ ap (take at) p ∙ e ∙ sym (take-append-le kept_bytes o (b ∷ []) many)
+pub going-byte : {read out : List ℕ} (s r : Run) (b : ℕ) → (b ≡ 10 → ⊥) → Kept b s r → Going read out s → Going (read ▸ b) out r
+going-byte {read} {out} s r b ne k g =
+    let other = ne_eqb b 10 ne in
+    let ended = ended-byte b other read [] in
+    record {
+      counted = k.number ∙ g.counted ∙ ap (λ (ls : List (List ℕ)). 1 + length ls) (sym ended);
+      kept = k.line ∙ ap (λ (l : List ℕ). take kept_bytes (l ▸ b)) g.kept ∙ put_join kept_bytes [] (open_line read) (b ∷ []) ∙ ap (take kept_bytes) (sym (open_byte b other read []));
+      printed = subst (λ (ls : List (List ℕ)). PrintedSoFar ls out r.stage) (sym ended) (subst (PrintedSoFar (ended_lines read) out) (sym k.stage) g.printed);
+    }
 
 -- ── Line 1 ends ──
 
-no_lines : (ls : List (List ℕ)) → length ls ≤ 0 → ls ≡ []
-no_lines [] h = refl
-no_lines (l ∷ ls) h = absurd (omega arith)
+-- A line's answer rests on the bytes that are kept.
+first-kept : (o : List ℕ) (a : Result Tables Refusal) → FirstAnswer (take kept_bytes o) a → FirstAnswer o a
+first-kept o (Ok t) (f, a, b) = (f, takes-cut o kept_bytes (omega arith) a, b)
+first-kept o (Err x) a = refuses-cut o kept_bytes (omega arith) a
 
--- What is printed is the text of the answer to line 1, the only line that ended.
-module _ (read o out psl ltl : List ℕ) (r : State) (ended : ended_lines read ≡ o ∷ []) where
-  first_goes : (a : First) → FirstAnswer o a psl ltl → Remembers a r → out ≡ first_text a ltl → r.more ≡ true → PrintedSoFar (ended_lines read) out r psl ltl
-  first_goes (First.Refused x) a (h, _, _) e m = let z : ◌≡◌ {A = ℕ} 0 1 = cc in absurd (omega arith)
-  first_goes (First.Tables n z) (f, t, b, _, _) (_, p, q) e m =
-      subst (λ (ls : List (List ℕ)). PrintedSoFar ls out r psl ltl) (sym ended)
-      (f, [], t, rw (p, q) b, e ∙ ap table_text b.translated ∙ sym (append-nil (table_text (emitted f))), refl)
+-- Before it ends, no line has, and nothing is printed.
+none_ended : (ls : List (List ℕ)) (out : List ℕ) (stage : Stage) → stage ≡ First → PrintedSoFar ls out stage → (ls ≡ []) × (out ≡ [])
+none_ended [] out stage e (_, o) = (refl, o)
+none_ended (l ∷ ls) out stage e (f, _, _, b, _, _) = absurd (subst (Stores f) e b)
 
-  first-over : (a : First) → FirstAnswer o a psl ltl → Remembers a r → out ≡ first_text a ltl → r.more ≡ false → (rest : List ℕ) → Runs (read ++ rest) out
-  first-over (First.Tables n z) a (h, _, _) e m rest = let z : ◌≡◌ {A = ℕ} 0 1 = cc in absurd (omega arith)
-  first-over (First.Refused x) a h e m rest = refused-runs read o out x ended a e rest
+nil-left : (xs ys : List ℕ) → xs ++ ys ≡ [] → xs ≡ []
+nil-left [] ys e = refl
+nil-left (x ∷ xs) ys e = let z : suc (length (xs ++ ys)) ≡ 0 = ap length e in absurd (omega arith)
 
-module _ (read done line psl ltl out : List ℕ) (s r : State) (g : Going read (done ++ take s.gathered out) s line psl ltl) where
-  pub first_ends : {psl' ltl' out' : List ℕ} → s.number ≤ 1 → s.gathered ≡ 0 → FirstDone (take s.filled line) out r psl' ltl' out' → r.gathered < length out
-      → GoingOrOver (read ▸ 10) (done ++ take r.gathered out') r line psl' ltl'
-  first_ends {psl'} {ltl'} {out'} h none d fits =
-      let start = no_lines (ended_lines read) (omega (arith, g.counted)) in
-      let ended = ended_end read [] ∙ ap (λ (ls : List (List ℕ)). ls ▸ open_line read) start in
-      let nothing = subst (λ (ls : List (List ℕ)). PrintedSoFar ls (done ++ take s.gathered out) s psl ltl) start g.printed in
-      let empty : done ++ take 0 out ≡ [] = ap (λ (k : ℕ). done ++ take k out) (sym none) ∙ nothing in
-      let text = printed done d.writes fits ∙ ap (λ (x : List ℕ). x ++ first_text d.answer ltl') empty in
-      let whole = first-kept (open_line read) psl' ltl' d.answer (subst (λ (x : List ℕ). FirstAnswer x d.answer psl' ltl') g.kept d.answers) in
-      record {
-        going = λ m. record {
-          counted = d.number ∙ ap (λ (ls : List (List ℕ)). 1 + length ls) (sym ended);
-          kept = ap (λ (k : ℕ). take k line) d.filled ∙ ap (take kept_bytes) (sym (open_end read []));
-          printed = first_goes (read ▸ 10) (open_line read) (done ++ take r.gathered out') psl' ltl' r ended d.answer whole d.remembers text m;
-        };
-        over = first-over (read ▸ 10) (open_line read) (done ++ take r.gathered out') psl' ltl' r ended d.answer whole d.remembers text;
-      }
+module _ (read done : List ℕ) (s r : Run) (number : r.number ≡ s.number + 1) (line : r.line.items ≡ []) (g : Going read (done ++ s.out.items) s) where
+  kept-none : r.line.items ≡ take kept_bytes (open_line (read ▸ 10))
+  kept-none = line ∙ ap (take kept_bytes) (sym (open_end read []))
+
+  pub first_ends : s.stage ≡ First → FirstDone s.line.items r.stage r.out.items → GoingOrOver (read ▸ 10) (done ++ r.out.items) r
+  first_ends start d = go r.stage refl d
+    where
+      none : (ended_lines read ≡ []) × (done ++ s.out.items ≡ [])
+      none = none_ended (ended_lines read) (done ++ s.out.items) s.stage start g.printed
+
+      ended : ended_lines (read ▸ 10) ≡ open_line read ∷ []
+      ended = ended_end read [] ∙ ap (λ (ls : List (List ℕ)). ls ▸ open_line read) none.0
+
+      text : done ++ r.out.items ≡ r.out.items
+      text = ap (λ (x : List ℕ). x ++ r.out.items) (nil-left done s.out.items none.1)
+
+      whole : (a : Result Tables Refusal) → FirstAnswer s.line.items a → FirstAnswer (open_line read) a
+      whole a h = first-kept (open_line read) a (subst (λ (x : List ℕ). FirstAnswer x a) g.kept h)
+
+      go : (stage : Stage) → r.stage ≡ stage → FirstDone s.line.items stage r.out.items → GoingOrOver (read ▸ 10) (done ++ r.out.items) r
+      go First e h = absurd h
+      go (Later t) e (h, out) =
+          let (f, a, b) = whole (Ok t) h in
+          record {
+            going = λ _. record {
+              counted = number ∙ ap (λ (k : ℕ). k + 1) g.counted ∙ omega (arith, ap length none.0) ∙ ap (λ (ls : List (List ℕ)). 1 + length ls) (sym ended);
+              kept = kept-none;
+              printed = subst (λ (ls : List (List ℕ)). PrintedSoFar ls (done ++ r.out.items) r.stage) (sym ended)
+                  (f, [], a, subst (Stores f) (sym e) b, text ∙ out ∙ ap table_text b.translated ∙ sym (append-nil (table_text (emitted f))), refl);
+            };
+            over = λ m. absurd (never (ap goes e) m);
+          }
+      go Ended e (x, h, out) =
+          record {
+            going = λ m. absurd (never m (ap goes e));
+            over = λ _. refused-runs (read ▸ 10) (open_line read) (done ++ r.out.items) x ended (whole (Err x) h) (text ∙ out);
+          }
 
   -- ── A later line ends ──
 
-  pub going_later : {out' : List ℕ} → 1 < s.number
-      → LaterDone (take s.filled line) (take (3 * s.psl_nodes) psl) (take (3 * s.ltl_nodes) ltl) out s.number s.gathered out' r.gathered
-      → r.gathered < length out → r.number ≡ s.number + 1 → r.filled ≡ 0 → r.psl_nodes ≡ s.psl_nodes → r.ltl_nodes ≡ s.ltl_nodes
-      → Going (read ▸ 10) (done ++ take r.gathered out') r line psl ltl
-  going_later {out'} h d fits num filled n z =
+  pub going_later : (t : Tables) (answer : Result Verdicts Refusal) → ((f : Formula) → TablesOf f t.psl.items t.ltl.items → LaterAnswer f s.line.items answer)
+      → s.stage ≡ Later t → r.stage ≡ s.stage → r.out.items ≡ s.out.items ++ later_text (s.number - 1) answer → Going (read ▸ 10) (done ++ r.out.items) r
+  going_later t answer answers e same out =
       let ended = ended_end read [] in
+      let text : done ++ r.out.items ≡ (done ++ s.out.items) ++ later_text (s.number - 1) answer =
+      ap (λ (x : List ℕ). done ++ x) out ∙ sym (append_assoc done s.out.items (later_text (s.number - 1) answer)) in
       record {
-        counted = num ∙ omega (arith, g.counted, length-append (ended_lines read) (open_line read ∷ [])) ∙ ap (λ (ls : List (List ℕ)). 1 + length ls) (sym ended);
-        kept = ap (λ (k : ℕ). take k line) filled ∙ ap (take kept_bytes) (sym (open_end read []));
-        printed = subst (λ (ls : List (List ℕ)). PrintedSoFar ls (done ++ take r.gathered out') r psl ltl) (sym ended)
-            (subst (λ (x : List ℕ). PrintedSoFar (ended_lines read ▸ open_line read) x r psl ltl) (sym (printed done d.writes fits))
-            (go (ended_lines read) refl g.printed));
+        counted = number ∙ omega (arith, g.counted, length-append (ended_lines read) (open_line read ∷ [])) ∙ ap (λ (ls : List (List ℕ)). 1 + length ls) (sym ended);
+        kept = kept-none;
+        printed = subst (λ (ls : List (List ℕ)). PrintedSoFar ls (done ++ r.out.items) r.stage) (sym ended)
+            (subst (λ (x : List ℕ). PrintedSoFar (ended_lines read ▸ open_line read) x r.stage) (sym text)
+            (subst (PrintedSoFar (ended_lines read ▸ open_line read) ((done ++ s.out.items) ++ later_text (s.number - 1) answer)) (sym same)
+            (go (ended_lines read) refl g.printed)));
       }
     where
-      go : (ls : List (List ℕ)) → ended_lines read ≡ ls → PrintedSoFar ls (done ++ take s.gathered out) s psl ltl
-          → PrintedSoFar (ls ▸ open_line read) ((done ++ take s.gathered out) ++ later_text (s.number - 1) d.answer) r psl ltl
-      go [] e t = absurd (omega (arith, g.counted, ap length e))
-      go (l ∷ ls) e (f, rest, a, b, c, p) =
-          let answered = later_kept f (open_line read) d.answer (subst (λ (x : List ℕ). LaterAnswer f x d.answer) g.kept (d.answers f b)) in (
+      go : (ls : List (List ℕ)) → ended_lines read ≡ ls → PrintedSoFar ls (done ++ s.out.items) s.stage
+          → PrintedSoFar (ls ▸ open_line read) ((done ++ s.out.items) ++ later_text (s.number - 1) answer) s.stage
+      go [] n (first, _) = let z : ◌≡◌ {A = ℕ} 0 1 = cc in absurd (omega arith)
+      go (l ∷ ls) n (f, rest, a, b, c, p) =
+          let answered = later_kept f (open_line read) answer (subst (λ (x : List ℕ). LaterAnswer f x answer) g.kept (answers f (subst (Stores f) e b))) in (
             f,
-            rest ++ later_text (s.number - 1) d.answer,
+            rest ++ later_text (s.number - 1) answer,
             a,
-            rw (n, z) b,
-            ap (λ (x : List ℕ). x ++ later_text (s.number - 1) d.answer) c ∙ append_assoc (table_text (emitted f)) rest (later_text (s.number - 1) d.answer),
-            traces-more f (open_line read) d.answer answered (s.number - 1) 1 ls rest (omega (arith, g.counted, ap length e)) p,
+            b,
+            ap (λ (x : List ℕ). x ++ later_text (s.number - 1) answer) c ∙ append_assoc (table_text (emitted f)) rest (later_text (s.number - 1) answer),
+            traces-more f (open_line read) answer answered (s.number - 1) 1 ls rest (omega (arith, g.counted, ap length n)) p,
           )
 
 -- ── The input's end ──
 
-prints : (out psl ltl : List ℕ) (s : State) (ls : List (List ℕ)) → 0 < length ls → PrintedSoFar ls out s psl ltl → Prints ls out
-prints out psl ltl s [] h t = absurd (omega arith)
-prints out psl ltl s (l ∷ ls) h (f, rest, a, _, c, p) = inl (f, rest, a, c, p)
+prints : (out : List ℕ) (stage : Stage) (ls : List (List ℕ)) → 0 < length ls → PrintedSoFar ls out stage → Prints ls out
+prints out stage [] h t = absurd (omega arith)
+prints out stage (l ∷ ls) h (f, rest, a, _, c, p) = inl (f, rest, a, c, p)
 
-module _ {read out line psl ltl : List ℕ} (s : State) (g : Going read out s line psl ltl) where
+module _ {read out : List ℕ} (s : Run) (g : Going read out s) where
   -- No line is open: the lines that have ended are all.
-  pub end_empty : s.filled ≡ 0 → 1 < s.number → Runs read out
+  pub end_empty : s.line.items ≡ [] → (s.number ≡ 1 → ⊥) → Runs read out
   end_empty f h = go (ended_lines read) refl g.printed
     where
       empty : open_line read ≡ []
-      empty = nil (open_line read) (sym g.kept ∙ ap (λ (k : ℕ). take k line) f)
+      empty = nil (open_line read) (sym g.kept ∙ f)
         where
           nil : (o : List ℕ) → take kept_bytes o ≡ [] → o ≡ []
           nil [] e = refl
           nil (b ∷ o) e = let z : suc (length (take most_bytes o)) ≡ 0 = ap length e in absurd (omega arith)
 
-      go : (ls : List (List ℕ)) → ended_lines read ≡ ls → PrintedSoFar ls out s psl ltl → Runs read out
-      go [] e t = absurd (omega (arith, g.counted, ap length e))
-      go (l ∷ ls) e t = subst (λ (ms : List (List ℕ)). Prints ms out) (sym (no_last read l ls e empty)) (prints out psl ltl s (l ∷ ls) (omega arith) t)
+      go : (ls : List (List ℕ)) → ended_lines read ≡ ls → PrintedSoFar ls out s.stage → Runs read out
+      go [] e t = absurd (h (g.counted ∙ ap (λ (ls : List (List ℕ)). 1 + length ls) e))
+      go (l ∷ ls) e t = subst (λ (ms : List (List ℕ)). Prints ms out) (sym (no_last read l ls e empty)) (prints out s.stage (l ∷ ls) (omega arith) t)
 
   -- The open line is answered as if byte 10 ended it.
-  pub end_open : {psl' ltl' out' : List ℕ} (r : State) → s.filled ≤ length line → (s.filled ≡ 0 → s.number ≤ 1) → GoingOrOver (read ▸ 10) out' r line psl' ltl' → Runs read out'
-  end_open {psl'} {ltl'} {out'} r room h a = go r.more refl
+  pub end_open : {out' : List ℕ} (r : Run) → (s.line.items ≡ [] → s.number ≡ 1) → GoingOrOver (read ▸ 10) out' r → Runs read out'
+  end_open {out'} r h a = go (goes_on r) refl
     where
       same : input_lines read ≡ ended_lines (read ▸ 10)
       same = by (ended_lines read) refl
@@ -181,11 +168,10 @@ module _ {read out line psl ltl : List ℕ} (s : State) (g : Going read out s li
           by [] e = only_line read e
           by (l ∷ ls) e =
               last-ends read (λ n. let z : ◌≡◌ {A = ℕ} 0 1 = cc in omega arith)
-              (λ o. let short : s.filled ≡ 0 = omega (arith, length-take-le s.filled line room, ap length g.kept, ap (λ (x : List ℕ). length (take kept_bytes x)) o) in
-              omega (arith, h short, g.counted, ap length e))
+              (λ o. let short : s.line.items ≡ [] = g.kept ∙ ap (take kept_bytes) o in omega (arith, h short, g.counted, ap length e))
 
-      go : (m : Bool) → r.more ≡ m → Runs read out'
-      go true e = subst (λ (ls : List (List ℕ)). Prints ls out') (sym same) (prints out' psl' ltl' r (ended_lines (read ▸ 10)) (some-ended read) (a.going e).printed)
+      go : (m : Bool) → goes_on r ≡ m → Runs read out'
+      go true e = subst (λ (ls : List (List ℕ)). Prints ls out') (sym same) (prints out' r.stage (ended_lines (read ▸ 10)) (some-ended read) (a.going e).printed)
       go false e =
           subst (λ (ls : List (List ℕ)). Prints ls out') (all_ended read ∙ sym same)
           (subst (λ (x : List ℕ). Runs x out') (append-nil (read ▸ 10)) (a.over e []))

@@ -1,122 +1,101 @@
 -- What each way out of the functions of the stream gives.
 use mathlib.Core.Path.{◌≡◌, refl, ap, sym, subst, ◌∙◌}
-use mathlib.Core.Bool.{Bool, true, false}
+use mathlib.Core.Bool.{true, false}
 use mathlib.Core.List.{List, [], ◌∷◌, ◌++◌, append_assoc, append-nil}
-use Prim.Native.Nat.{ℕ, ◌+◌, ◌*◌, ◌<◌, ◌≤◌}
+use Prim.Native.Nat.{ℕ, ◌+◌, ◌*◌, ◌-◌, ◌<◌, ◌≤◌}
 use native.Mathlib.Omega.{arith}
 use native.Mathlib.Numerals.{add-one}
-use borrow.Author.Tests.{ltb-true, ltb-false}
-use lib.Dec.{ltb}
-use lib.ListN.{length, take, drop, get_or, length-set, take-append-drop}
+use borrow.Author.Tests.{ne_eqb}
+use lib.Dec.{eqb}
+use lib.ListN.{length, take, drop, get_or, take-append-drop}
 use lib.Seq.{take-suc, take_all}
 use Rattle.table.specs.Node.{◌▸◌}
-use Rattle.logic.specs.Formula.{Formula}
-use Rattle.trace_lines.specs.TraceAnswer.{TraceAnswer}
-use Rattle.trace_lines.specs.declared.TraceLine.TheVariants as TraceLine
 use Rattle.printing.specs.Limits.{most_later, most_first}
+use Rattle.answers.specs.Answer.{later_text}
 use Rattle.answers.specs.Whole.{Runs}
-use Rattle.answers.specs.Answer.{LaterAnswer}
-use Rattle.answers.specs.Inner.{TablesOf}
-use Rattle.state.specs.Inner.{most_block, most_gathered, most_lines, Within, Gathered, Ready, stopped, start, idle}
-use Rattle.line_one.specs.Inner.{FirstDone}
-use Rattle.line_one.proofs.FirstLaw.{first-stored}
-use Rattle.run.specs.Inner.{Going, GoingOrOver, BothJudged, LaterDone, LineDone, Keeps, Fed, Finished, Ends, Advanced, AdvancesOrStops, Turns, no_turn, one_turn}
-use Rattle.answers.specs.declared.Later.{Later}
-use Rattle.state.specs.declared.State.{State}
-use Rattle.state.proofs.StateLaw.{within_as, never}
-use Rattle.answers.proofs.AnswerLaw.{room, later_judged}
-use Rattle.run.proofs.ProgressLaw.{going_start, going-same, going-byte, first_ends, going_later, end_empty, end_open}
-
--- ── A later line ──
-
--- Both verdicts on the trace that was read.
-pub later_both : (line l m : List ℕ) (a b : ℕ) → TraceAnswer line room room (TraceLine.Letters a b) l m → {psl ltl : List ℕ} (r : Later)
-    → BothJudged psl ltl (take a l) (take b m) r → (f : Formula) → TablesOf f psl ltl → LaterAnswer f line r
-later_both line l m a b t (Later.Verdicts v w) (p, q) = later_judged line l m a b t p q
-later_both line l m a b t (Later.Refused x) j = absurd j
+use Rattle.answers.proofs.ClaimsLaw.{later-short}
+use Rattle.run.specs.Bounds.{most_block, most_gathered, gathering_room, most_lines}
+use Rattle.run.specs.Inner.{goes, goes_on, Going, GoingOrOver, Gathered, FirstDone, AnsweredIn, Answered, LineDone, Kept, Fed, Finished, Ends, Advanced, Turns, no_turn, one_turn}
+use Rattle.run.specs.declared.Stage.TheVariants.{First, Later, Ended}
+use Rattle.run.specs.declared.Stage.{Stage}
+use Rattle.run.specs.declared.Run.{Run}
+use Rattle.run.proofs.BoundsLaw.{put_fits}
+use Rattle.run.proofs.ProgressLaw.{never, going_start, going-byte, first_ends, going_later, end_empty, end_open}
 
 -- ── A line's end ──
 
--- The state after a later line.
-abbrev pub onward : State → ℕ → State
-onward s g = record { number = s.number + 1; filled = 0; psl_nodes = s.psl_nodes; ltl_nodes = s.ltl_nodes; gathered = g; more = true; failed = false }
+-- The line is answered, then another begins.
+module _ (s m r : Run) (g : Gathered most_gathered s) (more : goes_on s ≡ true) (number : r.number ≡ m.number + 1) (stage : r.stage ≡ m.stage) (out : r.out.items ≡ m.out.items)
+    (line : r.line.items ≡ []) (few : s.number < most_lines) (d : Answered s m) where
+  pub line_done : LineDone s r
+  line_done = go s.stage refl d.done
+    where
+      counted : r.number ≡ s.number + 1
+      counted = omega (arith, number, d.number)
 
-module _ {line psl ltl out : List ℕ} (s : State) (w : Within s line psl ltl out) (few : s.gathered ≤ most_gathered) where
-  pub line_first : {psl' ltl' out' : List ℕ} (r : State) → s.number ≤ 1 → s.gathered ≡ 0 → length psl' ≡ length psl → length ltl' ≡ length ltl → length out' ≡ length out
-      → FirstDone (take s.filled line) out r psl' ltl' out' → LineDone line psl ltl out s r psl' ltl' out'
-  line_first {psl'} {ltl'} r h empty p q o d =
-      let (n, z, stored) = first-stored (take s.filled line) psl' ltl' d.answer d.answers r d.remembers in
-      record {
-        within = record {
-          line_room = w.line_room;
-          psl_room = p ∙ w.psl_room;
-          ltl_room = q ∙ w.ltl_room;
-          out_room = o ∙ w.out_room;
-          filled = omega (arith, d.filled);
-          psl_nodes_fit = n;
-          ltl_nodes_fit = z;
-          numbered = omega (arith, d.number);
-          working = λ _. d.works;
-          stored = λ _. stored;
-        };
-        number = omega (arith, d.number, w.numbered);
-        short = λ k g. omega (arith, d.short);
-        tells = λ read done a. first_ends read done line psl ltl out s r a h empty d (omega (arith, d.short, w.out_room));
-      }
+      go : (st : Stage) → s.stage ≡ st → AnsweredIn st s m → LineDone s r
+      go First e (h, short) =
+          let h' = subst (λ (x : List ℕ). FirstDone s.line.items r.stage x) (sym out) (subst (λ (x : Stage). FirstDone s.line.items x m.out.items) (sym stage) h) in
+          record {
+            number = counted;
+            short = λ k _. omega (arith, ap length out, short);
+            later = λ f. subst (λ (x : Stage). FirstDone s.line.items x m.out.items) (sym stage ∙ f) h;
+            tells = λ read done a. first_ends read done s r counted line a e h';
+          }
+      go (Later t) e (h, same) =
+          let (text, all) = put_fits s.out.items (later_text (s.number - 1) h.answer) gathering_room most_later h.writes (later-short (s.number - 1) h.answer (omega (arith, few))) (omega (arith, g.few)) in
+          record {
+            number = counted;
+            short = λ k l. omega (arith, ap length out, all);
+            later = λ f. let q = sym e ∙ sym same ∙ sym stage ∙ f in let z : ◌≡◌ {A = ℕ} 0 1 = cc in omega arith;
+            tells = λ read done a. record {
+              going = λ _. going_later read done s r counted line a t h.answer h.answers e (stage ∙ same) (out ∙ text);
+              over = λ n. absurd (never (ap goes (stage ∙ same) ∙ more) n);
+            };
+          }
+      go Ended e h = absurd (never more (ap goes e))
 
-  pub line_later : {out' : List ℕ} (g : ℕ) → 1 < s.number → s.more ≡ true → length out' ≡ length out
-      → LaterDone (take s.filled line) (take (3 * s.psl_nodes) psl) (take (3 * s.ltl_nodes) ltl) out s.number s.gathered out' g
-      → LineDone line psl ltl out s (onward s g) psl ltl out'
-  line_later g h m o d =
-      record {
-        within = record {
-          line_room = w.line_room;
-          psl_room = w.psl_room;
-          ltl_room = w.ltl_room;
-          out_room = o ∙ w.out_room;
-          filled = omega arith;
-          psl_nodes_fit = w.psl_nodes_fit;
-          ltl_nodes_fit = w.ltl_nodes_fit;
-          numbered = omega arith;
-          working = λ _. refl;
-          stored = λ _ _. w.stored h m;
-        };
-        number = refl;
-        short = λ k gathered. omega (arith, d.short, gathered.few);
-        tells = λ read done a. record {
-          going = λ _. going_later read done line psl ltl out s (onward s g) a h d (omega (arith, d.short, w.out_room)) refl refl refl refl;
-          over = λ e. let z : ◌≡◌ {A = ℕ} 0 1 = cc in absurd (omega arith);
-        };
-      }
+-- ── Nothing is gathered ──
+
+no_items : (xs : List ℕ) → length xs ≤ 0 → xs ≡ []
+no_items [] h = refl
+no_items (x ∷ xs) h = absurd (omega arith)
+
+module _ (s : Run) (g : Gathered 0 s) where
+  none_gathered : (done : List ℕ) → done ++ s.out.items ≡ done
+  none_gathered done = ap (λ (x : List ℕ). done ++ x) (no_items s.out.items g.few) ∙ append-nil done
+
+  pub none_yet : {read done : List ℕ} → Going read done s → Going read (done ++ s.out.items) s
+  none_yet {read} {done} a = subst (λ (x : List ℕ). Going read x s) (sym (none_gathered done)) a
+
+  -- ── The input's end ──
+
+  pub nothing_open : s.line.items ≡ [] → (s.number ≡ 1 → ⊥) → Finished s s
+  nothing_open line many read done a = subst (Runs read) (sym (none_gathered done)) (end_empty s a line many)
+
+  pub line_open : (r : Run) → (s.line.items ≡ [] → s.number ≡ 1) → LineDone s r → Finished s r
+  line_open r one d read done a = end_open s a r one (d.tells read done (none_yet a))
+
+pub emptied : (l : List ℕ) → true ≡ eqb (length l) 0 → l ≡ []
+emptied [] e = refl
+emptied (x ∷ l) e = absurd (never (sym e) (ne_eqb (length (x ∷ l)) 0 (λ h. omega (arith, h))))
 
 -- ── The loop over a block ──
 
--- The state with another count of kept bytes.
-abbrev pub keeping : State → ℕ → State
-keeping s k = record { number = s.number; filled = k; psl_nodes = s.psl_nodes; ltl_nodes = s.ltl_nodes; gathered = s.gathered; more = s.more; failed = s.failed }
-
--- The state r after the first i bytes of a block, from s on.
-pub record Feeding (block line₀ psl₀ ltl₀ : List ℕ) (s : State) (line psl ltl out : List ℕ) (r : State) (i : ℕ) : Type 0 where
-  pub within : Within r line psl ltl out
-  pub more : r.more ≡ true
-  pub upto : i ≤ length block
+-- The run r after the first i bytes of a block, from s on.
+pub record Feeding (block : List ℕ) (s r : Run) (i : ℕ) : Type 0 where
   pub gathered : Gathered (most_first + most_later * i) r
+  pub more : goes_on r ≡ true
   pub number : r.number ≤ s.number + i
-  pub tells : (read done : List ℕ) → Going read done s line₀ psl₀ ltl₀ → Going (read ++ take i block) (done ++ take r.gathered out) r line psl ltl
+  pub tells : (read done : List ℕ) → Going read done s → Going (read ++ take i block) (done ++ r.out.items) r
 
-pub feeding_start : {block line psl ltl out : List ℕ} {s : State} → Within s line psl ltl out → s.more ≡ true → Gathered 0 s → Feeding block line psl ltl s line psl ltl out s 0
-feeding_start {line = line} {psl} {ltl} {out} {s} w m g =
+pub feeding_start : {block : List ℕ} {s : Run} → Gathered 0 s → goes_on s ≡ true → Feeding block s s 0
+feeding_start {s = s} g m =
     record {
-      within = w;
-      more = m;
-      upto = omega arith;
       gathered = record { few = omega (arith, g.few); first = g.first };
+      more = m;
       number = omega arith;
-      tells = λ read done a.
-          let zero : s.gathered ≡ 0 = omega (arith, g.few) in
-          subst (λ (k : ℕ). Going (read ++ []) (done ++ take k out) s line psl ltl) (sym zero)
-          (subst (λ (x : List ℕ). Going (read ++ []) x s line psl ltl) (sym (append-nil done))
-          (subst (λ (x : List ℕ). Going x done s line psl ltl) (sym (append-nil read)) a));
+      tells = λ read done a. subst (λ (x : List ℕ). Going x (done ++ s.out.items) s) (sym (append-nil read)) (none_yet s g a);
     }
 
 -- The bytes taken, with one more.
@@ -125,173 +104,85 @@ one_more read block i b h e =
     append_assoc read (take i block) (b ∷ [])
     ∙ ap (λ (x : List ℕ). read ++ x) (ap (λ (c : ℕ). take i block ▸ c) e ∙ sym (take-suc block i 0 h) ∙ ap (λ (k : ℕ). take k block) (sym (add-one i)))
 
-kept-length : (line line' : List ℕ) (at b next : ℕ) → Keeps at b line line' next → at ≤ length line → (length line' ≡ length line) × (next ≤ length line)
-kept-length line line' at b next (more, full) h = go (ltb at (length line)) refl
-  where
-    go : (t : Bool) → ltb at (length line) ≡ t → (length line' ≡ length line) × (next ≤ length line)
-    go true t = let (p, q) = more (ltb-true at (length line) t) in (ap length p ∙ length-set line at b, omega (arith, q, ltb-true at (length line) t))
-    go false t = let (p, q) = full (ltb-false at (length line) t) in (ap length p, omega (arith, q))
-
 -- What the end of a line in the block needs.
-pub line_ready : {block line₀ psl₀ ltl₀ line psl ltl out : List ℕ} {s r : State} {i : ℕ} → Feeding block line₀ psl₀ ltl₀ s line psl ltl out r i → i < length block
-    → length block ≤ most_block → s.number + length block ≤ most_lines
-    → Within r line psl ltl out × Gathered most_gathered r × (r.more ≡ true) × (r.number < most_lines)
+pub line_ready : {block : List ℕ} {s r : Run} {i : ℕ} → Feeding block s r i → i < length block → length block ≤ most_block → s.number + length block ≤ most_lines
+    → Gathered most_gathered r × (goes_on r ≡ true) × (r.number < most_lines)
 line_ready f low short counted =
-    (f.within, record { few = omega (arith, f.gathered.few); first = f.gathered.first }, f.more, omega (arith, f.number))
+    (record { few = omega (arith, f.gathered.few); first = f.gathered.first }, f.more, omega (arith, f.number))
 
-module _ {block line₀ psl₀ ltl₀ line psl ltl out : List ℕ} {s : State} (r : State) (i : ℕ) (f : Feeding block line₀ psl₀ ltl₀ s line psl ltl out r i)
-    (h : i < length block) (b : ℕ) (e : b ≡ get_or block i 0) where
-  pub feeding_byte : {line' : List ℕ} (k : ℕ) → (b ≡ 10 → ⊥) → Keeps r.filled b line line' k → Feeding block line₀ psl₀ ltl₀ s line' psl ltl out (keeping r k) (i + 1)
-  feeding_byte {line'} k ne keeps =
-      let w = f.within in
-      let (p, q) = kept-length line line' r.filled b k keeps (omega (arith, w.filled, w.line_room)) in
+module _ {block : List ℕ} {s r : Run} {i : ℕ} (f : Feeding block s r i) (h : i < length block) (b : ℕ) (e : b ≡ get_or block i 0) (r' : Run) where
+  pub feeding_byte : (b ≡ 10 → ⊥) → Kept b r r' → Feeding block s r' (i + 1)
+  feeding_byte ne k =
       record {
-        within = record {
-          line_room = p ∙ w.line_room;
-          psl_room = w.psl_room;
-          ltl_room = w.ltl_room;
-          out_room = w.out_room;
-          filled = omega (arith, q, w.line_room);
-          psl_nodes_fit = w.psl_nodes_fit;
-          ltl_nodes_fit = w.ltl_nodes_fit;
-          numbered = w.numbered;
-          working = w.working;
-          stored = w.stored;
-        };
-        more = f.more;
-        upto = omega arith;
-        gathered = record { few = omega (arith, f.gathered.few); first = f.gathered.first };
-        number = omega (arith, f.number);
+        gathered = record { few = omega (arith, ap length k.out, f.gathered.few); first = λ first. k.out ∙ f.gathered.first (sym k.stage ∙ first) };
+        more = ap goes k.stage ∙ f.more;
+        number = omega (arith, k.number, f.number);
         tells = λ read done a.
-            subst (λ (x : List ℕ). Going x (done ++ take r.gathered out) (keeping r k) line' psl ltl) (one_more read block i b h e)
-            (going-byte r (keeping r k) (f.tells read done a) refl refl refl b line' ne w.line_room w.filled keeps);
+            subst (λ (x : List ℕ). Going x (done ++ r'.out.items) r') (one_more read block i b h e)
+            (subst (λ (x : List ℕ). Going ((read ++ take i block) ▸ b) (done ++ x) r') (sym k.out)
+            (going-byte r r' b ne k (f.tells read done a)));
       }
 
-  module _ (ten : b ≡ 10) {psl' ltl' out' : List ℕ} (r' : State) (d : LineDone line psl ltl out r r' psl' ltl' out') where
-    line_ends : (read done : List ℕ) → Going read done s line₀ psl₀ ltl₀ → GoingOrOver (read ++ take (i + 1) block) (done ++ take r'.gathered out') r' line psl' ltl'
+  module _ (ten : b ≡ 10) (d : LineDone r r') where
+    line_ends : (read done : List ℕ) → Going read done s → GoingOrOver (read ++ take (i + 1) block) (done ++ r'.out.items) r'
     line_ends read done a =
-        subst (λ (x : List ℕ). GoingOrOver x (done ++ take r'.gathered out') r' line psl' ltl') (one_more read block i 10 h (sym ten ∙ e))
-        (d.tells (read ++ take i block) done (f.tells read done a))
+        subst (λ (x : List ℕ). GoingOrOver x (done ++ r'.out.items) r') (one_more read block i 10 h (sym ten ∙ e)) (d.tells (read ++ take i block) done (f.tells read done a))
 
-    short : r'.gathered ≤ most_first + most_later * (i + 1)
-    short = omega (arith, d.short (most_later * i) f.gathered)
-
-    pub feeding_line : r'.more ≡ true → Feeding block line₀ psl₀ ltl₀ s line psl' ltl' out' r' (i + 1)
+    pub feeding_line : goes_on r' ≡ true → Feeding block s r' (i + 1)
     feeding_line m =
         record {
-          within = d.within;
+          gathered = record { few = omega (arith, d.short (most_later * i) f.gathered.few); first = λ k. absurd (d.later k) };
           more = m;
-          upto = omega arith;
-          gathered = record { few = short; first = λ k. absurd (omega (arith, d.number, f.within.numbered)) };
           number = omega (arith, d.number, f.number);
           tells = λ read done a. (line_ends read done a).going m;
         }
 
     -- Line 1 was refused: what follows in the block does not matter.
-    pub feeding_over : length block ≤ most_block → r'.more ≡ false → Fed block line₀ psl₀ ltl₀ s r' line psl' ltl' out'
-    feeding_over few m =
+    pub feeding_over : goes_on r' ≡ false → Fed block s r'
+    feeding_over m read done a =
         record {
-          within = d.within;
-          room = omega (arith, short, d.within.out_room);
-          tells = λ read done a. record {
-            going = λ g. let z : ◌≡◌ {A = ℕ} 0 1 = cc in absurd (omega arith);
-            over = λ _ rest.
-                let all : (read ++ take (i + 1) block) ++ (drop (i + 1) block ++ rest) ≡ (read ++ block) ++ rest =
-                sym (append_assoc (read ++ take (i + 1) block) (drop (i + 1) block) rest)
-                ∙ ap (λ (x : List ℕ). x ++ rest) (append_assoc read (take (i + 1) block) (drop (i + 1) block) ∙ ap (λ (x : List ℕ). read ++ x) (take-append-drop (i + 1) block)) in
-                subst (λ (x : List ℕ). Runs x (done ++ take r'.gathered out')) all ((line_ends read done a).over m (drop (i + 1) block ++ rest));
-          };
+          going = λ g. absurd (never g m);
+          over = λ _ rest.
+              let all : (read ++ take (i + 1) block) ++ (drop (i + 1) block ++ rest) ≡ (read ++ block) ++ rest =
+              sym (append_assoc (read ++ take (i + 1) block) (drop (i + 1) block) rest)
+              ∙ ap (λ (x : List ℕ). x ++ rest) (append_assoc read (take (i + 1) block) (drop (i + 1) block) ∙ ap (λ (x : List ℕ). read ++ x) (take-append-drop (i + 1) block)) in
+              subst (λ (x : List ℕ). Runs x (done ++ r'.out.items)) all ((line_ends read done a).over m (drop (i + 1) block ++ rest));
         }
 
-pub feeding_end : {block line₀ psl₀ ltl₀ line psl ltl out : List ℕ} {s : State} (r : State) (i : ℕ) → Feeding block line₀ psl₀ ltl₀ s line psl ltl out r i
-    → length block ≤ i → length block ≤ most_block → Fed block line₀ psl₀ ltl₀ s r line psl ltl out
-feeding_end {block} {line = line} {psl} {ltl} {out} r i f h few =
+pub feeding_end : {block : List ℕ} {s : Run} (r : Run) (i : ℕ) → Feeding block s r i → length block ≤ i → Fed block s r
+feeding_end {block} r i f h read done a =
     record {
-      within = f.within;
-      room = omega (arith, f.gathered.few, f.upto, f.within.out_room);
-      tells = λ read done a. record {
-        going = λ _. subst (λ (x : List ℕ). Going (read ++ x) (done ++ take r.gathered out) r line psl ltl) (take_all i block h) (f.tells read done a);
-        over = λ e. let m = f.more in let z : ◌≡◌ {A = ℕ} 0 1 = cc in absurd (omega arith);
-      };
+      going = λ _. subst (λ (x : List ℕ). Going (read ++ x) (done ++ r.out.items) r) (take_all i block h) (f.tells read done a);
+      over = λ m. absurd (never f.more m);
     }
-
--- ── The input's end ──
-
-module _ {line psl ltl out : List ℕ} (s : State) (w : Within s line psl ltl out) (g : Gathered 0 s) where
-  zero : s.gathered ≡ 0
-  zero = omega (arith, g.few)
-
-  -- Nothing is gathered before.
-  none-gathered : (done : List ℕ) → done ≡ done ++ take s.gathered out
-  none-gathered done = sym (append-nil done) ∙ ap (λ (k : ℕ). done ++ take k out) (sym zero)
-
-  pub nothing_open : s.filled ≡ 0 → 1 < s.number → Finished line psl ltl s s psl ltl out
-  nothing_open f h =
-      record { within = w; room = omega (arith, zero); tells = λ read done a. subst (Runs read) (none-gathered done) (end_empty s a f h) }
-
-  pub line_open : {psl' ltl' out' : List ℕ} (r : State) → (s.filled ≡ 0 → s.number ≤ 1) → LineDone line psl ltl out s r psl' ltl' out' → Finished line psl ltl s r psl' ltl' out'
-  line_open r h d =
-      record {
-        within = d.within;
-        room = omega (arith, d.short 0 (record { few = omega (arith, g.few); first = g.first }), d.within.out_room);
-        tells = λ read done a.
-            end_open s a r (omega (arith, w.filled, w.line_room)) h
-            (d.tells read done (subst (λ (x : List ℕ). Going read x s line psl ltl) (none-gathered done) a));
-      }
 
 -- ── A block ──
 
--- The state at the input's end.
-abbrev pub ended : State → State
-ended s = record { number = s.number; filled = s.filled; psl_nodes = s.psl_nodes; ltl_nodes = s.ltl_nodes; gathered = s.gathered; more = false; failed = s.failed }
-
-nil : (xs : List ℕ) → length xs ≡ 0 → xs ≡ []
-nil [] e = refl
-nil (x ∷ xs) e = absurd (omega arith)
-
 -- Gathering begins anew: the relation does not speak of what is gathered.
-module _ {line psl ltl : List ℕ} (s : State) where
-  pub anew : {read done : List ℕ} → Going read done s line psl ltl → Going read done (idle s) line psl ltl
-  anew a = going-same s (idle s) a refl refl refl refl
+pub anew : {read done : List ℕ} (s r : Run) → r.stage ≡ s.stage → r.number ≡ s.number → r.line.items ≡ s.line.items → Going read done s → Going read done r
+anew s r stage number line a = record { counted = number ∙ a.counted; kept = line ∙ a.kept; printed = rw stage a.printed }
 
-  pub advance_end : {block psl' ltl' out' : List ℕ} (r : State) → length block ≡ 0 → Finished line psl ltl (idle s) r psl' ltl' out'
-      → Advanced block line psl ltl s (ended r) line psl' ltl' out'
-  advance_end {block} {out' = out'} r e d =
-      record {
-        within = within_as r (ended r) d.within refl refl refl refl (λ m. absurd (never m refl));
-        room = d.room;
-        goes = λ m. absurd (never m refl);
-        ends = λ _ read done a. subst (λ (x : List ℕ). Ends read x (done ++ take r.gathered out')) (sym (nil block e)) (d.tells read done (anew a));
-      }
+pub advance_end : {block : List ℕ} {s s' : Run} (r r' : Run) → block ≡ [] → ((read done : List ℕ) → Going read done s → Going read done s') → Finished s' r → r'.stage ≡ Ended
+    → r'.out.items ≡ r.out.items → Advanced block s r' r'.out.items
+advance_end r r' e again d ended out =
+    record {
+      goes = λ m. absurd (never m (ap goes ended));
+      ends = λ _ read done a. subst (λ (x : List ℕ). Ends read x (done ++ r'.out.items)) (sym e) (subst (λ (x : List ℕ). Runs read (done ++ x)) (sym out) (d read done (again read done a)));
+    }
 
-  pub advance_on : {block line' psl' ltl' out' : List ℕ} (r : State) → (length block ≡ 0 → ⊥) → Fed block line psl ltl (idle s) r line' psl' ltl' out'
-      → Advanced block line psl ltl s r line' psl' ltl' out'
-  advance_on {block} {out' = out'} r some d =
-      record {
-        within = d.within;
-        room = d.room;
-        goes = λ m read done a. (d.tells read done (anew a)).going m;
-        ends = λ m read done a. go block some read (done ++ take r.gathered out') ((d.tells read done (anew a)).over m);
-      }
-    where
-      go : (xs : List ℕ) → (length xs ≡ 0 → ⊥) → (read out : List ℕ) → ((rest : List ℕ) → Runs ((read ++ xs) ++ rest) out) → Ends read xs out
-      go [] z read out f = absurd (z refl)
-      go (x ∷ xs) z read out f = λ rest. subst (λ (y : List ℕ). Runs y out) (append_assoc read (x ∷ xs) rest) (f rest)
-
--- ── Taken or not ──
-
-module _ {block line psl ltl out : List ℕ} {s : State} where
-  -- A block that can be taken was.
-  pub taken : {r : State} {line' psl' ltl' out' : List ℕ} → Ready block s line psl ltl out → Advanced block line psl ltl s r line' psl' ltl' out'
-      → AdvancesOrStops block line psl ltl out s r line' psl' ltl' out'
-  taken y a = record { advances = λ _. a; stops = λ not. absurd (not y); room = a.room }
-
-  -- One that cannot was not.
-  pub turned_away : {r : State} → (Ready block s line psl ltl out → ⊥) → r ≡ stopped s → AdvancesOrStops block line psl ltl out s r line psl ltl out
-  turned_away not e = record { advances = λ y. absurd (not y); stops = λ _. (e, refl, refl, refl, refl); room = omega (arith, ap (λ (q : State). q.gathered) e) }
+pub advance_on : {block : List ℕ} {s s' r : Run} → (block ≡ [] → ⊥) → ((read done : List ℕ) → Going read done s → Going read done s') → Fed block s' r → Advanced block s r r.out.items
+advance_on {block} {r = r} some again d =
+    record {
+      goes = λ m read done a. (d read done (again read done a)).going m;
+      ends = λ m read done a. go block some read (done ++ r.out.items) ((d read done (again read done a)).over m);
+    }
+  where
+    go : (xs : List ℕ) → (xs ≡ [] → ⊥) → (read out : List ℕ) → ((rest : List ℕ) → Runs ((read ++ xs) ++ rest) out) → Ends read xs out
+    go [] z read out f = absurd (z refl)
+    go (x ∷ xs) z read out f = λ rest. subst (λ (y : List ℕ). Runs y out) (append_assoc read (x ∷ xs) rest) (f rest)
 
 -- ── Turns ──
 
-pub turned : {read done line psl ltl : List ℕ} {s : State} → Turns read done s line psl ltl → Going read done s line psl ltl
-turned no_turn = going_start start refl refl
+pub turned : {read done : List ℕ} {s : Run} → Turns read done s → Going read done s
+turned (no_turn {s} h) = going_start s h
 turned (one_turn t a m) = a.goes m _ _ (turned t)

@@ -1,156 +1,218 @@
 // A run as a stream of bytes: lines are cut off, answered, and the answers gathered.
 #![tactic(auto)]
 
-ghost use Rattle.std.specs.Prelude.{◌≡◌, true, ◌+◌, ◌<◌, ◌≤◌, length};
-ghost use Rattle.logic.specs.Formula.{Formula};
-ghost use Rattle.answers.specs.Answer.{LaterAnswer};
-ghost use Rattle.answers.specs.Inner.{TablesOf, Accepted};
-ghost use Rattle.state.specs.Inner.{most_block, most_gathered, most_lines, Within, Gathered};
-ghost use Rattle.run.specs.Inner.{BothJudged, LaterDone, LineDone, Keeps, Fed, Finished, AdvancesOrStops};
+mod later;
 
-use answers::{Later, put_later};
-use line_one::answer_first;
-use logic::Letter;
-use state::{State, ready, stop};
-use trace::MOST_LETTERS;
-use trace_lines::TraceLine;
+ghost use Rattle.std.specs.Prelude.{◌≡◌, true, false, [], ◌∷◌, ◌++◌, ◌+◌, ◌<◌, ◌≤◌, take, length};
+ghost use Rattle.printing.specs.Limits.{most_first};
+ghost use Rattle.run.specs.Bounds.{most_block, most_gathered, most_lines};
+ghost use Rattle.run.specs.Inner.{Starts, goes_on, gathered, Gathered, Accepts, FirstDone, AnsweredIn, Answered, LineDone, Kept, Fed, Finished, Taken};
 
-// Both verdicts on a trace, by the tables of line 1, which were checked with it.
-fn judge_both(psl: &[u16], ltl: &[u16], lead: &[Letter], cycle: &[Letter]) -> Later
-    requires { Accepted psl.now ltl.now }
-    ensures { BothJudged psl.now ltl.now lead.now cycle.now result }
-{
-    Later::Verdicts(
-        psl_verdict::judge_psl(psl, lead, cycle),
-        ltl_verdict::judge_ltl(ltl, lead, cycle),
-    )
+use arrayvec::ArrayVec;
+use later::answer_later;
+use line_one::Tables;
+use printing::{put_refused, put_table};
+use std::fmt;
+use text::scan::MOST_BYTES;
+
+// A line's bytes that are kept: one more than a line may have, so that a longer one is seen to be.
+const LINE_ROOM: usize = MOST_BYTES + 1;
+
+// The most bytes of a block of input.
+pub const BLOCK: usize = 4096;
+
+// The most bytes of the answer to line 1, and of that to a later one.
+const MOST_FIRST: usize = 107000;
+
+const MOST_LATER: usize = 60;
+
+// Room for what a block prints, an answer to line 1 and one for each byte. One answer more would fit, so that none is cut.
+const OUT_ROOM: usize = MOST_FIRST + MOST_LATER * BLOCK + MOST_LATER;
+
+// Line numbers above this could overflow within a block.
+const LAST_LINE: u64 = u64::MAX - BLOCK as u64;
+
+// How far a run is.
+#[derive(Drop)]
+pub enum Stage {
+    // Line 1 has not ended.
+    First,
+    // Line 1 was answered by these tables.
+    Later(Tables),
+    // Line 1 was refused, or the input ended.
+    Ended,
 }
 
-// A later line: both verdicts on its trace.
-fn later_line(line: &[u8], psl: &[u16], ltl: &[u16]) -> Later
-    requires { Accepted psl.now ltl.now }
-    ensures { (f : Formula) → TablesOf f psl.now ltl.now → LaterAnswer f line.now result }
-{
-    let mut lead: [Letter; MOST_LETTERS] = [0; MOST_LETTERS];
-    let mut cycle: [Letter; MOST_LETTERS] = [0; MOST_LETTERS];
-    match trace_lines::read_trace(line, &mut lead, &mut cycle) {
-        TraceLine::Refused(x) => Later::Refused(x),
-        TraceLine::Letters { lead: a, cycle: b } => judge_both(psl, ltl, &lead[..a], &cycle[..b]),
+// Why a block is not taken.
+#[derive(Clone, Copy, Debug, PartialEq, Eq)]
+pub enum NotTaken {
+    LongBlock,
+    ManyLines,
+    RunEnded,
+}
+
+impl fmt::Display for NotTaken {
+    fn fmt<W: fmt::Write>(&self, f: &mut fmt::Formatter<W>) -> fmt::Result {
+        match self {
+            NotTaken::LongBlock => write!(f, "a block that is too long"),
+            NotTaken::ManyLines => write!(f, "more lines than can be counted"),
+            NotTaken::RunEnded => write!(f, "the run has ended"),
+        }
     }
 }
 
-// Line `number`, above 1: its answer's text is the next that is gathered.
-fn answer_later(
-    line: &[u8],
-    psl: &[u16],
-    ltl: &[u16],
-    out: &mut [u8],
+// What a run is made of between two bytes: the number of the open line, from 1, its bytes that are kept, and the bytes gathered for output.
+#[derive(Drop)]
+pub struct Run {
+    stage: Stage,
     number: u64,
-    gathered: usize,
-) -> usize
-    requires { Accepted psl.now ltl.now }
-    ensures { LaterDone line.now psl.now ltl.now out.old number gathered out.new result }
-{
-    let answer = later_line(line, psl, ltl);
-    put_later(out, gathered, number, answer)
+    line: ArrayVec<u8, LINE_ROOM>,
+    out: ArrayVec<u8, OUT_ROOM>,
 }
 
-// The line that ends here is answered.
-fn end_line(line: &[u8], psl: &mut [u16], ltl: &mut [u16], out: &mut [u8], s: State) -> State
-    requires { Within s line.now psl.old ltl.old out.old × Gathered most_gathered s × (s.more ≡ true) × (s.number < most_lines) }
-    ensures { LineDone line.now psl.old ltl.old out.old s result psl.new ltl.new out.new }
+// The stage after line 1, and its answer's text.
+fn answer_first(line: &[u8], out: &mut ArrayVec<u8, OUT_ROOM>) -> Stage
+    requires { out.old.items ≡ [] }
+    ensures { FirstDone line.now result out.new.items × (length out.new.items ≤ most_first) }
 {
-    let filled = s.filled;
-    let kept = &line[..filled];
-    if s.number <= 1 {
-        return answer_first(kept, psl, ltl, out);
-    }
-    let p = 3 * s.psl_nodes;
-    let q = 3 * s.ltl_nodes;
-    State {
-        number: s.number + 1,
-        filled: 0,
-        psl_nodes: s.psl_nodes,
-        ltl_nodes: s.ltl_nodes,
-        gathered: answer_later(kept, &psl[..p], &ltl[..q], out, s.number, s.gathered),
-        more: true,
-        failed: false,
+    match Tables::of_line(line) {
+        Ok(tables) => {
+            put_table(out, tables.ltl().numbers);
+            Stage::Later(tables)
+        }
+        Err(x) => {
+            put_refused(out, 1, x);
+            Stage::Ended
+        }
     }
 }
 
-// A byte of a line; of a line longer than may be, the rest is not kept.
-fn keep(line: &mut [u8], at: usize, b: u8) -> usize
-    ensures { Keeps at b line.old line.new result }
-{
-    if at < line.len() {
-        line[at] = b;
-        return at + 1;
+impl Run {
+    // Before the first byte.
+    pub fn new() -> Run
+        ensures { Starts result }
+    {
+        Run {
+            stage: Stage::First,
+            number: 1,
+            line: ArrayVec::new(),
+            out: ArrayVec::new(),
+        }
     }
-    at
-}
 
-// All bytes of a block, or up to the end of a refused line 1.
-fn feed(
-    block: &[u8],
-    line: &mut [u8],
-    psl: &mut [u16],
-    ltl: &mut [u16],
-    out: &mut [u8],
-    s: State,
-) -> State
-    requires { Within s line.old psl.old ltl.old out.old × Gathered 0 s × (s.more ≡ true) × (length block.now ≤ most_block) × (s.number + length block.now ≤ most_lines) }
-    ensures { Fed block.now line.old psl.old ltl.old s result line.new psl.new ltl.new out.new }
-{
-    let mut r = s;
-    let mut i: usize = 0;
-    while i < block.len() {
-        let b = block[i];
-        i += 1;
-        if b == 10 {
-            r = end_line(line, psl, ltl, out, r);
-            if !r.more {
-                return r;
+    // Whether more of the input can change the output.
+    pub fn goes_on(&self) -> bool
+        ensures { result ≡ goes_on self.now }
+    {
+        match &self.stage {
+            Stage::First | Stage::Later(_) => true,
+            Stage::Ended => false,
+        }
+    }
+
+    // What the last block printed.
+    pub fn gathered(&self) -> &[u8]
+        ensures { result.now ≡ gathered self.now }
+    {
+        &self.out
+    }
+
+    // The answer to line 1 is gathered. A function of its own, since the place of a new stage, which is large, is cleared in each call.
+    #[inline(never)]
+    fn answer_line_1(&mut self)
+        requires { self.old.out.items ≡ [] }
+        ensures { (self.new.number ≡ self.old.number) × (self.new.line.items ≡ self.old.line.items) × AnsweredIn Stage.First self.old self.new }
+    {
+        self.stage = answer_first(&self.line, &mut self.out);
+    }
+
+    // The answer to the open line is gathered.
+    fn answer_line(&mut self)
+        requires { self.old.stage ≡ Stage.First → self.old.out.items ≡ [] }
+        ensures { Answered self.old self.new }
+    {
+        match &self.stage {
+            Stage::First => self.answer_line_1(),
+            Stage::Later(tables) => answer_later(&self.line, tables, self.number, &mut self.out),
+            Stage::Ended => {}
+        }
+    }
+
+    // The line that ends here is answered.
+    fn end_line(&mut self)
+        requires { Gathered most_gathered self.old × (goes_on self.old ≡ true) × (self.old.number < most_lines) }
+        ensures { LineDone self.old self.new }
+    {
+        self.answer_line();
+        self.number += 1;
+        self.line.clear();
+    }
+
+    // A byte of a line; of a line longer than may be, the rest is not kept.
+    fn keep(&mut self, b: u8)
+        ensures { Kept b self.old self.new }
+    {
+        let _full = self.line.try_push(b);
+    }
+
+    // All bytes of a block, or up to the end of a refused line 1.
+    fn feed(&mut self, block: &[u8])
+        requires { Gathered 0 self.old × (goes_on self.old ≡ true) × (length block.now ≤ most_block) × (self.old.number + length block.now ≤ most_lines) }
+        ensures { Fed block.now self.old self.new }
+    {
+        for &b in block {
+            if b == b'\n' {
+                self.end_line();
+                if !self.goes_on() {
+                    return;
+                }
+            } else {
+                self.keep(b);
             }
-        } else {
-            r.filled = keep(line, r.filled, b);
         }
     }
-    r
-}
 
-// The input's end: a last line without byte 10; an input without any line is an empty first one.
-fn finish(line: &[u8], psl: &mut [u16], ltl: &mut [u16], out: &mut [u8], s: State) -> State
-    requires { Within s line.now psl.old ltl.old out.old × Gathered 0 s × (s.more ≡ true) × (s.number < most_lines) }
-    ensures { Finished line.now psl.old ltl.old s result psl.new ltl.new out.new }
-{
-    if s.filled == 0 {
-        if 1 < s.number {
-            return s;
+    // The input's end: a last line without byte 10; an input without any line is an empty first one.
+    fn finish(&mut self)
+        requires { Gathered 0 self.old × (goes_on self.old ≡ true) × (self.old.number < most_lines) }
+        ensures { Finished self.old self.new }
+    {
+        if self.line.is_empty() {
+            if self.number != 1 {
+                return;
+            }
         }
+        self.end_line();
     }
-    end_line(line, psl, ltl, out, s)
-}
 
-// A block of input, the empty one being the input's end. What it prints is gathered from the start. A block that cannot be taken stops the run.
-pub fn advance(
-    block: &[u8],
-    line: &mut [u8],
-    psl: &mut [u16],
-    ltl: &mut [u16],
-    out: &mut [u8],
-    s: State,
-) -> State
-    ensures { AdvancesOrStops block.now line.old psl.old ltl.old out.old s result line.new psl.new ltl.new out.new }
-{
-    if !ready(block, line, psl, ltl, out, s) {
-        return stop(s);
+    // Whether a block can be taken.
+    fn accepts(&self, block: &[u8]) -> Result<(), NotTaken>
+        ensures { Accepts block.now self.now result }
+    {
+        if BLOCK < block.len() {
+            return Err(NotTaken::LongBlock);
+        }
+        if LAST_LINE < self.number {
+            return Err(NotTaken::ManyLines);
+        }
+        if !self.goes_on() {
+            return Err(NotTaken::RunEnded);
+        }
+        Ok(())
     }
-    let mut r = s;
-    r.gathered = 0;
-    if block.len() == 0 {
-        r = finish(line, psl, ltl, out, r);
-        r.more = false;
-        return r;
+
+    // A block of input, the empty one being the input's end. What it prints is gathered from the start. One that cannot be taken changes nothing.
+    pub fn advance(&mut self, block: &[u8]) -> Result<(), NotTaken>
+        ensures { Taken block.now self.old self.new result }
+    {
+        self.accepts(block)?;
+        self.out.clear();
+        if block.is_empty() {
+            self.finish();
+            self.stage = Stage::Ended;
+            return Ok(());
+        }
+        self.feed(block);
+        Ok(())
     }
-    feed(block, line, psl, ltl, out, r)
 }

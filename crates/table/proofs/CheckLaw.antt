@@ -11,10 +11,9 @@ use lib.Dec.{eqb, ltb, leb}
 use lib.ListN.{length}
 use borrow.Author.Tests.{lt-ltb, le-ltb, eq-eqb, eqb-true, ltb-true, leb-true}
 use Rattle.logic.specs.Letter.{signals}
-use Rattle.trace.specs.declared.Refusal.{Refusal}
-use Rattle.table.specs.declared.Checked.{Checked}
-use Rattle.table.specs.declared.Checked.TheVariants.{Accepted, Refused}
-use Rattle.trace.specs.Refusal.{refused, unless, or_else, lowest}
+use Rattle.trace.specs.declared.refusal.Refusal.{Refusal}
+use Rattle.std.specs.Prelude.{Result, Ok, Err}
+use Rattle.trace.specs.Refusal.{unless, or_else, lowest}
 use Rattle.table.specs.Answer.{checked}
 use Rattle.table.specs.Node.{node, count, kind_at, left_at, right_at}
 use Rattle.table.specs.Rules.{Use, unused, signal, operand, Sorts, Rules, is_operand, known, shape_of}
@@ -46,11 +45,11 @@ either-false true b e = absurd (not_both true refl e)
 either-false false b e = (refl, e)
 
 -- The answer tells the refusal.
-pub accepted : (o : Option Refusal) (a : Checked) → a ≡ checked o → a ≡ Accepted → o ≡ none
+pub accepted : (o : Option Refusal) (a : Result (Unit {0}) Refusal) → a ≡ checked o → a ≡ Ok tt → o ≡ none
 accepted none a e d = refl
 accepted (some x) a e d = let z : ◌≡◌ {A = ℕ} 0 1 = cc in absurd (omega arith)
 
-pub was_refused : (o : Option Refusal) (a : Checked) (x : Refusal) → a ≡ checked o → a ≡ Refused x → o ≡ some x
+pub was_refused : (o : Option Refusal) (a : Result (Unit {0}) Refusal) (x : Refusal) → a ≡ checked o → a ≡ Err x → o ≡ some x
 was_refused none a x e d = let z : ◌≡◌ {A = ℕ} 0 1 = cc in absurd (omega arith)
 was_refused (some y) a x e d = cc
 
@@ -254,18 +253,18 @@ module _ (R : Rules) (t : List ℕ) where
       let b = both_true (eqb (n % 3) 0) (ltb 0 (n / 3)) a.0 in
       record { threes = eqb-true (n % 3) 0 b.0; some = ltb-true 0 (n / 3) b.1; low = leb-true (n / 3) R.most a.1 }
 
-  pub refused-length : length_fits R.most (length t) ≡ false → table_refusal R t ≡ some (refused R.numbers.length)
+  pub refused-length : length_fits R.most (length t) ≡ false → table_refusal R t ≡ some R.refusals.length
   unfolding table_refusal
   refused-length e = rw e
 
   module _ (e : length_fits R.most (length t) ≡ true) where
     -- The answer for the first node that is refused is the table's.
-    pub refused-node : (i : ℕ) (a : Checked) → i < count t → lowest (refusal_at R t) i ≡ none → (refusal_at R t i ≡ none → ⊥)
+    pub refused-node : (i : ℕ) (a : Result (Unit {0}) Refusal) → i < count t → lowest (refusal_at R t) i ≡ none → (refusal_at R t i ≡ none → ⊥)
         → a ≡ checked (refusal_at R t i) → a ≡ checked (table_refusal R t)
     unfolding table_refusal
     refused-node i a h d f g = go (refusal_at R t i) refl
       where
-        go : (o : Option Refusal) → refusal_at R t i ≡ o → a ≡ checked (unless (length_fits R.most (length t)) (refused R.numbers.length) (lowest (refusal_at R t) (count t)))
+        go : (o : Option Refusal) → refusal_at R t i ≡ o → a ≡ checked (unless (length_fits R.most (length t)) R.refusals.length (lowest (refusal_at R t) (count t)))
         go none z = absurd (f z)
         go (some x) z = rw (e, lowest-some (refusal_at R t) i (count t) x h d z) (g ∙ ap checked z)
 

@@ -1,18 +1,16 @@
 -- What both checks owe to the code's tests: of the length, and of the node at which their loop stands.
-use mathlib.Core.Path.{◌≡◌, sym, ◌∙◌}
-use mathlib.Core.Bool.{Bool, true, false, not}
+use mathlib.Core.Path.{◌≡◌, refl, sym, ◌∙◌}
+use mathlib.Core.Bool.{Bool, true, false, not, ◌&&◌}
 use mathlib.Core.Option.{none, some}
 use mathlib.Core.List.{List}
-use Prim.Native.Nat.{ℕ, ◌≤◌, ◌<◌}
-use native.Mathlib.Omega.{arith}
+use Prim.Native.Nat.{ℕ}
 use lib.ListN.{length}
-use borrow.Author.Tests.{not-true, not-false}
-use Rattle.trace.specs.Refusal.{refused, lowest}
-use Rattle.table.specs.Node.{count, kind_at}
-use Rattle.table.specs.Rules.{Rules}
+use borrow.Author.Tests.{not-true, not-false, ltb-true, ltb-false}
+use Rattle.table.specs.Node.{node, kind_at, left_at, right_at, node_at}
+use Rattle.table.specs.Rules.{Rules, known}
 use Rattle.table.specs.Check.{length_fits, refusal_at, table_refusal}
-use Rattle.table.specs.Inner.First.{FirstRefused}
-use Rattle.table.proofs.CheckLaw.{Fast, fast_none, fast_some, unknown_some, refused-length}
+use Rattle.table.specs.Inner.Place.{node_low}
+use Rattle.table.proofs.CheckLaw.{both_true, Fast, fast_none, fast_some, unknown_some, refused-length}
 
 module _ (R : Rules) (t : List ℕ) where
   -- The test of the length, which answered b.
@@ -20,20 +18,21 @@ module _ (R : Rules) (t : List ℕ) where
     pub length-passed : not b ≡ false → length_fits R.most (length t) ≡ true
     length-passed d = sym e ∙ not-false b d
 
-    pub length_failed : not b ≡ true → table_refusal R t ≡ some (refused R.numbers.length)
+    pub length_failed : not b ≡ true → table_refusal R t ≡ some R.refusals.length
     length_failed d = refused-length R t (sym e ∙ not-true b d)
 
-  -- The tests of node i, of which those of its places answered b.
-  pub node-passed : (i : ℕ) → kind_at t i < length R.kinds → {b : Bool} → b ≡ Fast R t i → not b ≡ false → refusal_at R t i ≡ none
-  node-passed i k {b} e d = fast_none R t i k (sym e ∙ not-false b d)
+  -- All tests of node i.
+  module _ (i : ℕ) where
+    -- As the code reads it.
+    pub low_read : {k l r : ℕ} → k ≡ kind_at t i → l ≡ left_at t i → r ≡ right_at t i → node_low R i (node k l r) ≡ node_low R i (node_at t i)
+    low_read ek el er = rw (ek, el, er)
 
-  module _ (i : ℕ) (within : i ≤ count t) (passed : lowest (refusal_at R t) i ≡ none) where
-    pub stops_unknown : length R.kinds ≤ kind_at t i → FirstRefused R t i
-    stops_unknown k = record { passed = passed; within = within; stopped = λ _. unknown_some R t i k }
+    pub node_passed : known R (kind_at t i) && Fast R t i ≡ true → refusal_at R t i ≡ none
+    node_passed e = let d = both_true (known R (kind_at t i)) (Fast R t i) e in fast_none R t i (ltb-true _ _ d.0) d.1
 
-    pub stops_unfit : {b : Bool} → b ≡ Fast R t i → not b ≡ true → FirstRefused R t i
-    stops_unfit {b} e d = record { passed = passed; within = within; stopped = λ _. fast_some R t i (sym e ∙ not-true b d) }
-
-  -- Past the last node.
-  pub stops_end : lowest (refusal_at R t) (count t) ≡ none → FirstRefused R t (count t)
-  stops_end e = record { passed = e; within = omega arith; stopped = λ h. absurd (omega arith) }
+    pub node_failed : known R (kind_at t i) && Fast R t i ≡ false → refusal_at R t i ≡ none → ⊥
+    node_failed = go (known R (kind_at t i)) refl
+      where
+        go : (b : Bool) → known R (kind_at t i) ≡ b → b && Fast R t i ≡ false → refusal_at R t i ≡ none → ⊥
+        go true k e = fast_some R t i e
+        go false k e = unknown_some R t i (ltb-false _ _ k)

@@ -3,9 +3,9 @@ use Rattle.std.specs.Prelude.{Bool, true, ◌&&◌, List, ℕ, ◌/◌, ◌%◌,
 use Rattle.std.specs.Bool.{beq}
 use Rattle.std.proofs.Math.Option.{Option, none, some}
 use Rattle.logic.specs.Letter.{signals}
-use Rattle.trace.specs.declared.Refusal.{Refusal}
+use Rattle.trace.specs.declared.refusal.Refusal.{Refusal}
 use Rattle.table.specs.Node.{Node, node, count, kind_at, left_at, right_at, node_at}
-use Rattle.trace.specs.Refusal.{refused, unless, lowest}
+use Rattle.trace.specs.Refusal.{unless, lowest}
 use Rattle.table.specs.Rules.{Use, unused, signal, operand, Sorts, Rules, known, shape_of, boolean_kind}
 
 -- ── The tests of a place that holds n ──
@@ -43,22 +43,22 @@ length_fits most n = (eqb (n % 3) 0 && ltb 0 (n / 3)) && leb (n / 3) most
 -- The sorts of a node's operands, Booleans if lb and rb.
 abbrev pub sort_refusal : Option Sorts → Use × Use → Bool → Bool → Option Refusal
 sort_refusal none h lb rb = none
-sort_refusal (some s) h lb rb = unless (sort_fits h.0 lb && sort_fits h.1 rb) (refused s.number) none
+sort_refusal (some s) h lb rb = unless (sort_fits h.0 lb && sort_fits h.1 rb) s.refusal none
 
 -- The places of node i: left and right by one test, then both by the next.
 unfoldable pub places_refusal : Rules → Use × Use → ℕ → ℕ → ℕ → Bool → Bool → Option Refusal
 places_refusal R h i l r lb rb =
     let p = h.0 in
     let q = h.1 in
-    unless (unused_fits p l && unused_fits q r) (refused R.numbers.unused)
-    (unless (signal_fits p l && signal_fits q r) (refused R.numbers.signal)
-    (unless (operand_fits p l i && operand_fits q r i) (refused R.numbers.operand)
+    unless (unused_fits p l && unused_fits q r) R.refusals.unused
+    (unless (signal_fits p l && signal_fits q r) R.refusals.signal
+    (unless (operand_fits p l i && operand_fits q r i) R.refusals.operand
     (sort_refusal R.sorts h lb rb)))
 
 -- Node i: its kind, then its places.
 unfoldable pub node_refusal : Rules → ℕ → Node → Bool → Bool → Option Refusal
 node_refusal R i (node k l r) lb rb =
-    unless (known R k) (refused R.numbers.kind) (places_refusal R (shape_of R k) i l r lb rb)
+    unless (known R k) R.refusals.kind (places_refusal R (shape_of R k) i l r lb rb)
 
 -- Node i is a Boolean.
 abbrev pub is_boolean : Rules → List ℕ → ℕ → Bool
@@ -70,5 +70,5 @@ refusal_at R t i = node_refusal R i (node_at t i) (is_boolean R t (left_at t i))
 -- The length first, then the lowest node that is refused.
 unfoldable pub table_refusal : Rules → List ℕ → Option Refusal
 table_refusal R t =
-    unless (length_fits R.most (length t)) (refused R.numbers.length)
+    unless (length_fits R.most (length t)) R.refusals.length
     (lowest (refusal_at R t) (count t))

@@ -1,6 +1,7 @@
 -- The rules of a table: what each place of a node holds, kind by kind.
 use Rattle.std.specs.Prelude.{Bool, true, false, List, ℕ, ltb, length, get_or}
 use Rattle.std.proofs.Math.Option.{Option, none, some}
+use Rattle.trace.specs.declared.refusal.Refusal.{Refusal}
 
 -- What a place of a node holds: 0, or a signal, or the number of an operand, which is a Boolean or a formula.
 pub data Use : Type 0 where
@@ -18,24 +19,24 @@ is_operand unused = false
 is_operand signal = false
 is_operand (operand b) = true
 
--- The numbers of the refusals, each by what is wrong.
-pub record Numbers : Type 0 where
-  pub length : ℕ
-  pub kind : ℕ
-  pub unused : ℕ
-  pub signal : ℕ
-  pub operand : ℕ
+-- The refusals, each by what is wrong.
+pub record Refusals : Type 0 where
+  pub length : Refusal
+  pub kind : Refusal
+  pub unused : Refusal
+  pub signal : Refusal
+  pub operand : Refusal
 
 -- Where there are two sorts of nodes: how many kinds, the first, are Booleans, and the refusal of an operand that is of the wrong sort.
 pub record Sorts : Type 0 where
   pub booleans : ℕ
-  pub number : ℕ
+  pub refusal : Refusal
 
 -- What stands left and right, kind by kind; the most nodes; the refusals; the sorts, if there are two.
 pub record Rules : Type 0 where
   pub kinds : List (Use × Use)
   pub most : ℕ
-  pub numbers : Numbers
+  pub refusals : Refusals
   pub sorts : Option Sorts
 
 -- A number that is a kind of the table.

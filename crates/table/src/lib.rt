@@ -1,61 +1,33 @@
 // Tables of triples: what PSL and LTL tables share.
 #![tactic(auto)]
 
-ghost use Rattle.std.specs.Prelude.{◌≡◌, ◌&&◌, ℕ, ◌<◌, get_or};
-ghost use Rattle.std.proofs.Math.Option.{Option};
-ghost use Rattle.trace.specs.declared.Refusal.{Refusal};
-ghost use Rattle.table.specs.Node.{node};
-ghost use Rattle.trace.specs.Refusal.{refused, unless};
-ghost use Rattle.table.specs.Answer.{checked};
-ghost use Rattle.table.specs.Rules.{Use, Rules as TableRules};
-ghost use Rattle.table.specs.Check.{length_fits, unused_fits, signal_fits, operand_fits, sort_fits, places_refusal, node_refusal, refusal_at};
-ghost use Rattle.table.specs.Inner.Place.{operand_code, coded, coded_numbers, operand_or, bound, low_fits, SortNumbered, Codes};
+mod accepted;
+mod kind;
+mod place;
 
-use logic::SIGNALS;
+ghost use Rattle.std.specs.Prelude.{◌≡◌, ◌<◌, get_or};
+ghost use Rattle.std.proofs.Math.Option.{none};
+ghost use Rattle.table.specs.Node.{node, count, kind_at, left_at, right_at};
+ghost use Rattle.trace.specs.Refusal.{unless};
+ghost use Rattle.table.specs.Answer.{checked};
+ghost use Rattle.table.specs.Check.{length_fits, sort_refusal, places_refusal, node_refusal, refusal_at};
+ghost use Rattle.table.specs.Inner.Place.{uses_of, node_low};
+
+pub use accepted::Table;
+pub use kind::{Checked, Kind, Refusals};
+pub use place::{Place, places_low};
 use trace::Refusal;
 
 // The number of a node, counted from 0 along a table: never a point of time.
-#[derive(Clone, Copy)]
+#[derive(Clone, Copy, Debug, PartialEq, Eq, PartialOrd, Ord)]
 pub struct NodeNo(pub u16);
 
-// How many kinds a table can have.
-pub const MOST_KINDS: usize = 11;
-
-// What a place of a node holds, as a number: without an operand it is the limit of what the place holds; an operand's has all bits that a node's number can have. A
-// number and not an enum, so that the test of a node takes no branch on its kind. What is promised of a place is promised of the four that follow.
-pub const UNUSED: u16 = 1;
-
-pub const SIGNAL: u16 = SIGNALS;
-
-pub const FORMULA: u16 = 16383;
-
-pub const BOOLEAN: u16 = 32767;
-
-// The numbers of the refusals, each by what is wrong. Where there are no sorts, that refusal has the number 0, and the test is left out.
-#[derive(Clone, Copy)]
-pub struct Numbers {
-    pub kind: u8,
-    pub unused: u8,
-    pub signal: u8,
-    pub operand: u8,
-    pub sort: u8,
-}
-
-// The rules of a table: what stands left, and what stands right, kind by kind; how many kinds there are, and how many of these, the first, are
-// Booleans.
-#[derive(Clone, Copy)]
-pub struct Rules {
-    pub left: [u16; MOST_KINDS],
-    pub right: [u16; MOST_KINDS],
-    pub kinds: u16,
-    pub booleans: u16,
-    pub numbers: Numbers,
-}
-
-#[derive(Clone, Copy)]
-pub enum Checked {
-    Accepted,
-    Refused(Refusal),
+// A node: its kind, and what its two places hold. The kind is a number as it stands in a list, or what that stands for.
+#[derive(Clone, Copy, Debug, PartialEq, Eq)]
+pub struct Node<K> {
+    pub kind: K,
+    pub left: u16,
+    pub right: u16,
 }
 
 // A table of n numbers has as many nodes as are allowed.
@@ -65,132 +37,94 @@ pub fn length_fits(most: usize, n: usize) -> bool
     (n % 3 == 0) & (0 < n / 3) & (n / 3 <= most)
 }
 
-// The tests of place p, which holds n.
-fn unused_fits(p: u16, n: u16) -> bool
-    ensures { (u : Use) → p ≡ coded u → result ≡ unused_fits u n }
+// Node i of a list.
+pub fn node_in(t: &[u16], i: usize) -> Node<u16>
+    requires { i < count t.now }
+    ensures { (result.kind ≡ kind_at t.now i) × (result.left ≡ left_at t.now i) × (result.right ≡ right_at t.now i) }
 {
-    (p != UNUSED) | (n == 0)
-}
-
-fn signal_fits(p: u16, n: u16) -> bool
-    ensures { (u : Use) → p ≡ coded u → result ≡ signal_fits u n }
-{
-    (p != SIGNAL) | (n < SIGNALS)
-}
-
-fn operand_fits(p: u16, n: u16, i: NodeNo) -> bool
-    ensures { (u : Use) → p ≡ coded u → result ≡ operand_fits u n i.0 }
-{
-    (p < FORMULA) | (n < i.0)
-}
-
-pub fn sort_fits(p: u16, b: bool) -> bool
-    ensures { (u : Use) → p ≡ coded u → result ≡ sort_fits u b }
-{
-    (p < FORMULA) | (b == (p == BOOLEAN))
-}
-
-// What a place of node i holds is below this. The choice between two values stays one in the compiled loops, and takes no branch.
-fn bound(p: u16, i: NodeNo) -> u16
-    ensures { (u : Use) → p ≡ coded u → result ≡ bound u i.0 }
-{
-    if FORMULA <= p { i.0 } else { p }
-}
-
-// The operand of place p, which holds n; 0 where it has none. What was found low enough has no bit in common with a limit. An `if` became a
-// branch in the loop that counts uses.
-pub fn operand_of(p: u16, n: u16) -> u16
-    ensures { (u : Use) (i : ℕ) → p ≡ coded u → n < bound u i → i < operand_code → result ≡ operand_or u n 0 }
-{
-    n & p
-}
-
-// How many operands place p has: 1, or none.
-pub fn operands_of(p: u16) -> u16
-    ensures { (u : Use) → p ≡ coded u → result ≡ operand_or u 1 0 }
-{
-    p / 8192 % 2
+    Node {
+        kind: t[3 * i],
+        left: t[3 * i + 1],
+        right: t[3 * i + 2],
+    }
 }
 
 // A number of a list, 0 past its end.
 fn number_at(t: &[u16], at: usize) -> u16
     ensures { result ≡ get_or t.now at 0 }
 {
-    if at < t.len() { t[at] } else { 0 }
+    t.get(at).copied().unwrap_or(0)
 }
 
-// Both places of node i are low enough: an operand is below i, and without one the place's number is the limit.
-pub fn places_low(p: u16, q: u16, i: NodeNo, l: u16, r: u16) -> bool
-    ensures { (u v : Use) → p ≡ coded u → q ≡ coded v → result ≡ (low_fits u l i.0 && low_fits v r i.0) }
+// That refusal unless a test was passed.
+fn passed(test: bool, x: Refusal) -> Result<(), Refusal>
+    ensures { result ≡ checked (unless test x none) }
 {
-    (l < bound(p, i)) & (r < bound(q, i))
+    if test { Ok(()) } else { Err(x) }
 }
 
-// The refusal of that number unless a test was passed, then what the later tests answer.
-fn unless(passed: bool, number: u8, later: Checked) -> Checked
-    ensures { (o : Option Refusal) → later ≡ checked o → result ≡ checked (unless passed (refused number) o) }
+// The sorts of a node's operands, if there are two.
+fn check_sorts<K: Kind>(places: (Place, Place), lb: bool, rb: bool) -> Result<(), Refusal>
+    ensures { result ≡ checked (sort_refusal K.rules.sorts (uses_of places) lb rb) }
 {
-    if passed {
-        later
-    } else {
-        Checked::Refused(Refusal(number))
+    match K::refusals().sort {
+        None => Ok(()),
+        Some(e) => passed(places.0.sort_fits(lb) & places.1.sort_fits(rb), e),
     }
 }
 
 // The places of node i, its operands being Booleans if lb and rb.
-fn check_places(
-    x: Numbers,
-    p: u16,
-    q: u16,
+fn check_places<K: Kind>(
+    places: (Place, Place),
     i: NodeNo,
-    l: u16,
-    r: u16,
+    n: Node<u16>,
     lb: bool,
     rb: bool,
-) -> Checked
-    ensures { (R : TableRules) (u : Use × Use) → SortNumbered R.sorts → x ≡ coded_numbers R → p ≡ coded u.0 → q ≡ coded u.1 → result ≡ checked (places_refusal R u i.0 l r lb rb) }
+) -> Result<(), Refusal>
+    ensures { result ≡ checked (places_refusal K.rules (uses_of places) i.0 n.left n.right lb rb) }
 {
-    unless(
-        unused_fits(p, l) & unused_fits(q, r),
-        x.unused,
-        unless(
-            signal_fits(p, l) & signal_fits(q, r),
-            x.signal,
-            unless(
-                operand_fits(p, l, i) & operand_fits(q, r, i),
-                x.operand,
-                unless(
-                    (x.sort == 0) | (sort_fits(p, lb) & sort_fits(q, rb)),
-                    x.sort,
-                    Checked::Accepted,
-                ),
-            ),
-        ),
-    )
+    let (p, q) = places;
+    let x = K::refusals();
+    passed(p.unused_fits(n.left) & q.unused_fits(n.right), x.unused)?;
+    passed(p.signal_fits(n.left) & q.signal_fits(n.right), x.signal)?;
+    passed(
+        p.operand_fits(n.left, i) & q.operand_fits(n.right, i),
+        x.operand,
+    )?;
+    check_sorts::<K>(places, lb, rb)
 }
 
 // Node i, its operands being Booleans if lb and rb.
-pub fn check_node(rules: Rules, i: NodeNo, k: u16, l: u16, r: u16, lb: bool, rb: bool) -> Checked
-    ensures { (R : TableRules) → Codes rules R → result ≡ checked (node_refusal R i.0 (node k l r) lb rb) }
+pub fn check_node<K: Kind>(i: NodeNo, n: Node<u16>, lb: bool, rb: bool) -> Result<(), Refusal>
+    ensures { result ≡ checked (node_refusal K.rules i.0 (node n.kind n.left n.right) lb rb) }
 {
-    let x = rules.numbers;
-    if !((k < rules.kinds) & ((k as usize) < MOST_KINDS)) {
-        return Checked::Refused(Refusal(x.kind));
+    let kind = K::from_number(n.kind)?;
+    check_places::<K>(kind.places(), i, n, lb, rb)
+}
+
+// All tests of node i but those of sorts, in one.
+pub fn low_node<K: Kind>(i: NodeNo, n: Node<u16>) -> bool
+    ensures { result ≡ node_low K.rules i.0 (node n.kind n.left n.right) }
+{
+    match K::from_number(n.kind) {
+        Ok(kind) => places_low(kind.places(), i, n),
+        Err(_) => false,
     }
-    let at = k as usize;
-    let p = rules.left[at];
-    let q = rules.right[at];
-    check_places(x, p, q, i, l, r, lb, rb)
 }
 
 // The answer for node i of a table, whatever the table is.
-pub fn refused_at(rules: Rules, t: &[u16], i: NodeNo) -> Checked
-    ensures { (R : TableRules) → Codes rules R → result ≡ checked (refusal_at R t.now i.0) }
+pub fn refused_at<K: Kind>(t: &[u16], i: NodeNo) -> Result<(), Refusal>
+    ensures { result ≡ checked (refusal_at K.rules t.now i.0) }
 {
     let at = 3 * (i.0 as usize);
     let l = number_at(t, at + 1);
     let r = number_at(t, at + 2);
-    let lb = number_at(t, 3 * (l as usize)) < rules.booleans;
-    let rb = number_at(t, 3 * (r as usize)) < rules.booleans;
-    check_node(rules, i, number_at(t, at), l, r, lb, rb)
+    let n = Node {
+        kind: number_at(t, at),
+        left: l,
+        right: r,
+    };
+    let lb = K::is_boolean(number_at(t, 3 * (l as usize)));
+    let rb = K::is_boolean(number_at(t, 3 * (r as usize)));
+    check_node::<K>(i, n, lb, rb)
 }

@@ -7,3 +7,4 @@ pub mod ScanLaw
 pub mod WordLaw
 pub mod WriterLaw
 pub mod ClaimsLaw
+mod CopyLaw

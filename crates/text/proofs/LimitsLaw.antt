@@ -4,7 +4,7 @@ use mathlib.Core.Bool.{Bool, true, false}
 use mathlib.Core.Option.{none}
 use Prim.Native.Nat.{ℕ}
 use native.Mathlib.Omega.{arith}
-use Rattle.trace.specs.declared.Refusal.{Refusal}
+use Rattle.trace.specs.declared.refusal.Refusal.{Refusal}
 use Rattle.trace.specs.Refusal.{unless, or_else}
 use Rattle.table.proofs.CheckLaw.{some-none}
 

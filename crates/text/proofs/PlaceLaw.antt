@@ -1,13 +1,14 @@
 -- Laws of places: what stands in a line, and where a reader has to stop.
 use mathlib.Core.Path.{◌≡◌, refl, ap, sym, subst, ◌∙◌}
-use mathlib.Core.List.{List, [], ◌∷◌, ◌++◌, append_assoc, append-nil, append_cancel_right}
-use Prim.Native.Nat.{ℕ, suc, ◌+◌, ◌<◌, ◌≤◌}
+use mathlib.Core.List.{List, [], ◌∷◌, ◌++◌, append_assoc, append-nil, append_cancel_right, head-eq_of_cons-eq}
+use Prim.Native.Nat.{ℕ, zero, suc, ◌+◌, ◌<◌, ◌≤◌}
 use native.Mathlib.Omega.{arith}
 use native.Mathlib.Numerals.{add-one}
-use native.Mathlib.Nat.{add-zero}
-use lib.ListN.{length, take, drop, take-append-drop, length-take, length-drop}
-use lib.Seq.{take-take, drop-append-le, length-take-le, drop-cons, get_or-take, get_or-drop}
-use Rattle.text.specs.Inner.Places.{byte_at, Stands, Agree, Language, Begins, Halts, Stops, StopsLine}
+use lib.ListN.{length, take, drop, take-append-drop, length-append, length-take, length-drop}
+use lib.Seq.{take-take, drop-append-le, length-take-le}
+use Rattle.std.specs.Prelude.{Some, slice_get}
+use Rattle.std.proofs.lemmas.Option.{slice_get_within}
+use Rattle.text.specs.Inner.Places.{Stands, Agree, Language, Begins, Halts, Stops, StopsLine, Only}
 
 -- ── Bytes ──
 
@@ -17,21 +18,36 @@ agree_self n s = record { is = refl }
 pub agree_less : {n m : ℕ} {s s' : List ℕ} → m ≤ n → Agree n s s' → Agree m s s'
 agree_less {n} {m} {s} {s'} h e = record { is = sym (take-take m n s h) ∙ ap (take m) e.is ∙ take-take m n s' h }
 
-pub agree-byte : {n : ℕ} {s s' : List ℕ} (i : ℕ) → i < n → Agree n s s' → byte_at s i ≡ byte_at s' i
-agree-byte {n} {s} {s'} i h e = sym (get_or-take n s i 256 h) ∙ ap (λ (l : List ℕ). byte_at l i) e.is ∙ get_or-take n s' i 256 h
+get-take : (n : ℕ) (l : List ℕ) (i : ℕ) → i < n → slice_get (take n l) i ≡ slice_get l i
+get-take zero l i h = absurd (omega arith)
+get-take (suc n) [] i h = refl
+get-take (suc n) (x ∷ l) zero h = refl
+get-take (suc n) (x ∷ l) (suc i) h = get-take n l i (omega arith)
+
+pub agree-byte : {n : ℕ} {s s' : List ℕ} (i : ℕ) → i < n → Agree n s s' → slice_get s i ≡ slice_get s' i
+agree-byte {n} {s} {s'} i h e = sym (get-take n s i h) ∙ ap (λ (l : List ℕ). slice_get l i) e.is ∙ get-take n s' i h
 
 -- The first byte of what follows a place.
-pub byte-drop : (s : List ℕ) (i b : ℕ) (t : List ℕ) → drop i s ≡ b ∷ t → byte_at s i ≡ b
-byte-drop s i b t e = ap (byte_at s) (sym (add-zero i)) ∙ sym (get_or-drop i s 0 256) ∙ ap (λ (l : List ℕ). byte_at l 0) e
+pub byte-drop : (s : List ℕ) (i b : ℕ) (t : List ℕ) → drop i s ≡ b ∷ t → slice_get s i ≡ Some b
+byte-drop [] zero b t e = absurd (omega (arith, ap length e))
+byte-drop [] (suc i) b t e = absurd (omega (arith, ap length e))
+byte-drop (x ∷ s) zero b t e = ap (λ (c : ℕ). Some c) (head-eq_of_cons-eq e)
+byte-drop (x ∷ s) (suc i) b t e = byte-drop s i b t e
 
-pub drop-byte : (s : List ℕ) (i : ℕ) → i < length s → drop i s ≡ byte_at s i ∷ drop (i + 1) s
-drop-byte s i h = rw (add-one, drop-cons s i 256)
+drop_suc : (s : List ℕ) (i b : ℕ) → slice_get s i ≡ Some b → drop i s ≡ b ∷ drop (suc i) s
+drop_suc [] i b e = cc
+drop_suc (x ∷ s) zero b e = cc
+drop_suc (x ∷ s) (suc i) b e = drop_suc s i b e
+
+pub drop-byte : (s : List ℕ) (i b : ℕ) → slice_get s i ≡ Some b → drop i s ≡ b ∷ drop (i + 1) s
+drop-byte s i b e = rw add-one (drop_suc s i b e)
 
 -- ── What stands ──
 
-pub stands_one : {s : List ℕ} {i : ℕ} (b : ℕ) → byte_at s i ≡ b → i < length s → Stands (b ∷ []) s i (i + 1)
-stands_one {s} {i} b e h =
-    record { is = drop-byte s i h ∙ ap (λ (c : ℕ). c ∷ drop (i + 1) s) e; after = omega arith; within = omega arith }
+pub stands_one : {s : List ℕ} {i : ℕ} (b : ℕ) → slice_get s i ≡ Some b → Stands (b ∷ []) s i (i + 1)
+stands_one {s} {i} b e =
+    let h = slice_get_within s i b e in
+    record { is = drop-byte s i b e; after = omega arith; within = omega arith }
 
 pub stands_join : {v w s : List ℕ} {i j k : ℕ} → Stands v s i j → Stands w s j k → Stands (v ++ w) s i k
 stands_join {v} {w} {s} {i} {j} {k} a b =
@@ -55,7 +71,7 @@ stands_same {w} {s} {i} {j} s' a g =
 -- ── Where a reader stops ──
 
 -- At once, where every word of the language begins with another byte.
-pub stops_here : {L : Language} {s : List ℕ} {i : ℕ} (b : ℕ) → i ≤ length s → (byte_at s i ≡ b → ⊥)
+pub stops_here : {L : Language} {s : List ℕ} {i : ℕ} (b : ℕ) → i ≤ length s → (slice_get s i ≡ Some b → ⊥)
     → ((w : List ℕ) → L w → (x : List ℕ) × (w ≡ b ∷ x)) → (w : List ℕ) → L w → Stops L s i i
 stops_here {L} {s} {i} b h z heads w l =
     record {
@@ -85,6 +101,14 @@ pub begins-first : {L M : Language} → ((w : List ℕ) → L w → Begins M w) 
 begins-first dec (w, t, l, d) =
     let (y, z, n, u) = dec w l in
     (y, z ++ t, n, d ∙ ap (λ (v : List ℕ). v ++ t) u ∙ append_assoc y z t)
+
+-- Where a byte can't stand with which every word of the language begins.
+pub stops_first : {L : Language} {s : List ℕ} {i p b : ℕ} → Stops (Only b) s i p → ((w : List ℕ) → L w → (x : List ℕ) × (w ≡ b ∷ x))
+    → (w : List ℕ) → L w → Stops L s i p
+stops_first {L} {s} {i} {p} {b} a heads w l =
+    let (x, e) = heads w l in
+    halts-first a (λ v d. (x, subst L (e ∙ sym (ap (λ (y : List ℕ). y ++ x) d)) l))
+    (λ s' g. begins-first (λ v m. let (y, d) = heads v m in (b ∷ [], y, refl, d)))
 
 -- After a part that stands.
 pub halts-after : {L M Q R : Language} {v s : List ℕ} {i j p : ℕ} → Stands v s i j → Halts M Q s j p → ((w : List ℕ) → M w → L (v ++ w))
@@ -127,3 +151,8 @@ stops_end s i h =
           let l = length-take-le (suc i) s h in
           omega (arith, l, ap length g.is, length-take (suc i) s', length-drop i s', ap length e);
     }
+
+-- A word that stands ends as many places on as it has bytes.
+pub stands_end : {w s : List ℕ} {i j : ℕ} → Stands w s i j → j ≡ i + length w
+stands_end {w} {s} {i} {j} a =
+    omega (arith, a.after, a.within, ap length a.is, length-append w (drop j s), length-drop i s, length-drop j s)

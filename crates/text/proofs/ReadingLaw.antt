@@ -7,7 +7,7 @@ use native.Mathlib.Decide.{dec_lt}
 use native.Mathlib.Omega.{arith}
 use lib.ListN.{length, take, drop, length-append, length-drop, length-take}
 use lib.Seq.{sets, sets-eq, take_at, take-take, take_all}
-use Rattle.trace.specs.declared.Refusal.{Refusal}
+use Rattle.trace.specs.declared.refusal.Refusal.{Refusal}
 use Rattle.table.proofs.CheckLaw.{some-none}
 use Rattle.text.specs.Limits.{most_bytes, front}
 use Rattle.text.specs.Reading.{Breaks, Reading, long, breaks, spells, line_refusal, Takes, Refuses}

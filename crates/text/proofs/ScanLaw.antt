@@ -1,50 +1,42 @@
 -- What each way out of the readers of digits, numbers and words gives.
 use mathlib.Core.Path.{◌≡◌, refl, ap, sym, subst, ◌∙◌}
-use mathlib.Core.Bool.{Bool, true, false}
 use mathlib.Core.List.{List, [], ◌∷◌, ◌++◌, append_assoc, append_cancel_left, head-eq_of_cons-eq, tail-eq_of_cons-eq}
-use Prim.Native.Nat.{ℕ, zero, suc, ◌+◌, ◌*◌, ◌-◌, ◌/◌, ◌<◌, ◌≤◌}
+use Prim.Native.Nat.{ℕ, suc, ◌+◌, ◌*◌, ◌-◌, ◌<◌, ◌≤◌}
 use native.Mathlib.Omega.{arith}
-use native.Mathlib.Decide.{dec_lt}
 use native.Mathlib.Numerals.{add-one}
-use native.Mathlib.Nat.{add-zero}
-use lib.ListN.{length, get_or, take, drop, drop_of_length-le, take-append-drop, get_or-eq_default}
-use lib.Seq.{take-suc, take_all, split_at}
+use lib.ListN.{length, get_or, take, drop, take-append-drop, length-take, length-drop}
+use lib.Seq.{take-suc, take_all, split_at, get_or-take, get_or-drop}
 use Rattle.text.specs.Spelling.{digits}
-use Rattle.text.specs.Inner.Places.{byte_at, Stands, Agree, Halts}
+use mathlib.Core.Bool.{true, false, not}
+use borrow.Author.Tests.{eqb-true, eqb-false}
+use lib.Dec.{eqb}
+use Rattle.std.specs.Prelude.{Option, Some, None, Ok, Err, slice_get}
+use Rattle.std.specs.Option.{ok_or, option_eq}
+use Rattle.std.proofs.lemmas.Bool.{not-true, not-false}
+use Rattle.text.specs.declared.scan.Fault.{Fault}
+use Rattle.std.proofs.lemmas.Option.{slice_get_within, slice_get-get_or}
+use Rattle.text.specs.Inner.Places.{Stands, Agree, Halts, Stops}
 use Rattle.text.specs.Inner.Number.{IsDigit, NoDigit, Numeral, Numbered}
-use Rattle.text.specs.Inner.Scan.{Counts, NumberStands, NumberRead, WordRead}
-use Rattle.text.specs.declared.numbers.Number.TheVariants.{Small, Large}
-use Rattle.text.proofs.PlaceLaw.{agree-byte, agree_less, byte-drop, drop-byte, stands_one, stands_join, stands_same}
+use Rattle.text.specs.Inner.Scan.{DigitRead, NumberRead, WordStands}
+use Rattle.text.proofs.PlaceLaw.{agree-byte, agree_less, byte-drop, drop-byte, stands_one, stands_join, stands_same, stops_here}
 use Rattle.text.proofs.NumberLaw.{digits_small, digits_more, digits-first}
 
 -- ── Digits ──
 
-pub get_or-in : (l : List ℕ) (i d e : ℕ) → i < length l → get_or l i d ≡ get_or l i e
-get_or-in [] i d e h = absurd (omega arith)
-get_or-in (x ∷ l) zero d e h = refl
-get_or-in (x ∷ l) (suc i) d e h = get_or-in l i d e (omega arith)
+-- No digit follows where the byte there, if any, is none.
+pub no_digit : (s : List ℕ) (i : ℕ) → ((b : ℕ) → slice_get s i ≡ Some b → IsDigit b → ⊥) → NoDigit (drop i s)
+no_digit s i z = go (drop i s) refl
+  where
+    go : (x : List ℕ) → drop i s ≡ x → NoDigit x
+    go [] e = tt
+    go (b ∷ t) e = z b (byte-drop s i b t e)
 
-module _ (s : List ℕ) (i : ℕ) where
-  pub no_digit : (b : ℕ) → b ≡ byte_at s i → (IsDigit b → ⊥) → NoDigit (drop i s)
-  no_digit b e z =
-      elim (dec_lt i (length s)) [
-        | yes h ↦ subst NoDigit (sym (drop-byte s i h)) (λ d. z (subst IsDigit (sym e) d))
-        | no h ↦ subst NoDigit (sym (drop_of_length-le s {i = i} (omega arith))) tt
-      ]
-
-  digit_not : NoDigit (drop i s) → IsDigit (byte_at s i) → ⊥
-  digit_not z d =
-      elim (dec_lt i (length s)) [
-        | yes h ↦ subst NoDigit (drop-byte s i h) z d
-        | no h ↦ omega (arith, get_or-eq_default s 256 {n = i} (omega arith))
-      ]
-
-  pub the_digit : (b : ℕ) → b ≡ byte_at s i → i < length s → 48 ≤ b → Stands ((48 + (b - 48)) ∷ []) s i (i + 1)
-  the_digit b e h g = stands_one (48 + (b - 48)) (sym e ∙ omega arith) h
+digit_not : (s : List ℕ) (i b : ℕ) → NoDigit (drop i s) → slice_get s i ≡ Some b → IsDigit b → ⊥
+digit_not s i b z e = subst NoDigit (drop-byte s i b e) z
 
 -- It depends on the byte there alone.
 pub no-digit-agree : {n : ℕ} {s s' : List ℕ} (i : ℕ) → i < n → Agree n s s' → NoDigit (drop i s) → NoDigit (drop i s')
-no-digit-agree {n} {s} {s'} i h g z = no_digit s' i (byte_at s' i) refl (λ d. digit_not s i z (subst IsDigit (sym (agree-byte i h g)) d))
+no-digit-agree {n} {s} {s'} i h g z = no_digit s' i (λ b e. digit_not s i b z (agree-byte i h g ∙ e))
 
 -- ── Numbers ──
 
@@ -57,8 +49,7 @@ module _ (s : List ℕ) (at : ℕ) where
         begun = ([], digits 0, refl, (0, refl));
         none = λ s' g (n, t, _, e).
             let (c, x, f, d, _) = digits-first n in
-            let u = agree-byte at (omega arith) g ∙ byte-drop s' at c (x ++ t) (e ∙ ap (λ (y : List ℕ). y ++ t) f) in
-            digit_not s at z (subst IsDigit (sym u) d);
+            digit_not s at c z (agree-byte at (omega arith) g ∙ byte-drop s' at c (x ++ t) (e ∙ ap (λ (y : List ℕ). y ++ t) f)) d;
       }
 
   -- A digit after 0.
@@ -75,92 +66,120 @@ module _ (s : List ℕ) (at : ℕ) where
             let zero : n ≡ 0 = lead (sym (head-eq_of_cons-eq v)) in
             let none : x ≡ [] = tail-eq_of_cons-eq (sym f ∙ ap digits zero ∙ digits_small 0 (omega arith)) in
             let next : drop (at + 1) s' ≡ t = tail-eq_of_cons-eq v ∙ ap (λ (y : List ℕ). y ++ t) none in
-            let same : byte_at s' (at + 1) ≡ 48 + d =
+            let same : slice_get s' (at + 1) ≡ Some (48 + d) =
             sym (agree-byte (at + 1) (omega arith) g) ∙ byte-drop s (at + 1) (48 + d) (drop (at + 1 + 1) s) o.is in
-            digit_not s' (at + 1) (subst NoDigit (sym next) z) (omega (arith, same), omega (arith, same));
+            digit_not s' (at + 1) (48 + d) (subst NoDigit (sym next) z) same (omega arith, omega arith);
       }
 
-  pub number-zero : Stands (48 ∷ []) s at (at + 1) → NoDigit (drop (at + 1) s) → NumberStands 0 s at (at + 1)
-  number-zero a z = record { stands = rw (digits_small 0 (omega arith)) a; more = omega arith; ends = z }
-
-  -- The digits of n, which is not 0, have been read up to i.
-  pub record SoFar (n i : ℕ) : Type 0 where
-    pub pos : 0 < n
+  -- The digits of n have been read up to i; after a first digit 0 there are no more.
+  pub record SoFar (first n i : ℕ) : Type 0 where
     pub stands : Stands (digits n) s at i
     pub more : at < i
+    pub zero : first ≡ 0 → i ≡ at + 1
+    pub pos : (first ≡ 0 → ⊥) → 0 < n
 
-  pub so_far_one : (d : ℕ) → 0 < d → d < 10 → Stands ((48 + d) ∷ []) s at (at + 1) → SoFar (10 * 0 + d) (at + 1)
-  so_far_one d p h a =
+  pub so_far_one : (d : ℕ) → d < 10 → Stands ((48 + d) ∷ []) s at (at + 1) → SoFar d (10 * 0 + d) (at + 1)
+  so_far_one d h a =
       let z : 10 * 0 + d ≡ d = omega arith in
-      record { pos = omega arith; stands = rw (z, digits_small d h) a; more = omega arith }
+      record { stands = rw (z, digits_small d h) a; more = omega arith; zero = λ _. refl; pos = λ n. omega arith }
 
-  pub so_far_more : {n i : ℕ} (d : ℕ) → d < 10 → SoFar n i → Stands ((48 + d) ∷ []) s i (i + 1) → SoFar (10 * n + d) (i + 1)
-  so_far_more {n} {i} d h a b =
-      record { pos = omega (arith, a.pos); stands = rw (digits_more n d a.pos h) (stands_join a.stands b); more = omega (arith, a.more) }
+  pub so_far_more : {first n i : ℕ} (d : ℕ) → (first ≡ 0 → ⊥) → d < 10 → SoFar first n i → Stands ((48 + d) ∷ []) s i (i + 1)
+      → SoFar first (10 * n + d) (i + 1)
+  so_far_more {first} {n} {i} d z h a b =
+      let p = a.pos z in
+      record { stands = rw (digits_more n d p h) (stands_join a.stands b); more = omega (arith, a.more); zero = λ e. absurd (z e); pos = λ _. omega arith }
 
-  number-stands : {n i : ℕ} → SoFar n i → NoDigit (drop i s) → NumberStands n s at i
-  number-stands a z = record { stands = a.stands; more = a.more; ends = z }
-
-  pub number_small : {n i limit : ℕ} (v : ℕ) (b : Bool) → b ≡ false → SoFar n i → Counts limit n v b → NoDigit (drop i s)
-      → NumberRead s at limit (Small v i)
-  number_small {n} {i} v false e a (h, l) z = (l, subst (λ (m : ℕ). NumberStands m s at i) h (number-stands a z))
-  number_small v true e a h z = let w : ◌≡◌ {A = ℕ} 0 1 = cc in absurd (omega arith)
-
-  pub number_large : {n i limit : ℕ} (v : ℕ) (b : Bool) → b ≡ true → SoFar n i → Counts limit n v b → NoDigit (drop i s)
-      → NumberRead s at limit (Large i)
-  number_large {n} v true e a h z = (n, h, number-stands a z)
-  number_large v false e a h z = let w : ◌≡◌ {A = ℕ} 0 1 = cc in absurd (omega arith)
-
--- One digit more, where the number was above the limit, comes above it, or stays within it.
-module _ (limit n d v : ℕ) where
-  pub counts_stay : (b : Bool) → b ≡ true → Counts limit n v b → Counts limit (10 * n + d) v b
-  counts_stay true e h = omega arith
-  counts_stay false e h = let w : ◌≡◌ {A = ℕ} 0 1 = cc in absurd (omega arith)
-
-  pub counts-over : (b : Bool) → b ≡ false → Counts limit n v b → d ≤ limit → (limit - d) / 10 < v → limit < 10 * n + d
-  counts-over false e h g i = omega arith
-  counts-over true e h g i = let w : ◌≡◌ {A = ℕ} 0 1 = cc in absurd (omega arith)
-
-  pub counts-fits : (b : Bool) → b ≡ false → Counts limit n v b → d ≤ limit → v ≤ (limit - d) / 10
-      → (10 * n + d ≡ 10 * v + d) × (10 * v + d ≤ limit)
-  counts-fits false e h g i = (omega arith, omega arith)
-  counts-fits true e h g i = let w : ◌≡◌ {A = ℕ} 0 1 = cc in absurd (omega arith)
+  -- A digit after 0.
+  pub after_zero : {first n i : ℕ} (d : ℕ) → first ≡ 0 → d < 10 → Stands ((48 + first) ∷ []) s at (at + 1) → SoFar first n i
+      → Stands ((48 + d) ∷ []) s i (i + 1) → Halts Numeral Numbered s at i
+  after_zero {first} {n} {i} d e h a f o =
+      let j = f.zero e in
+      let z = subst (λ (c : ℕ). Stands ((48 + c) ∷ []) s at (at + 1)) e a in
+      subst (Halts Numeral Numbered s at) (sym j) (number_zeros z d h (subst (λ (k : ℕ). Stands ((48 + d) ∷ []) s k (k + 1)) j o))
 
 -- ── Words ──
 
-pub word_none : (w s : List ℕ) (at : ℕ) → at ≤ length s → Stands (take 0 w) s at (at + 0)
-word_none w s at h = rw add-zero (record { is = refl; after = omega arith; within = h })
+-- The word's first i bytes stand, so far as the line has them: so no place overflows, wherever the reading began.
+pub record Begun (w s : List ℕ) (at i next : ℕ) : Type 0 where
+  pub next_is : next ≡ at + i
+  pub within : i ≤ length w
+  pub room : i ≤ length s - at
+  pub stands : at ≤ length s → Stands (take i w) s at next
 
-module _ (w s : List ℕ) (at i : ℕ) (low : i ≤ length s - at) (a : at ≤ length s → Stands (take i w) s at (at + i)) where
-  pub word_more : i < length w → at + i < length s → byte_at s (at + i) ≡ get_or w i 0 → Stands (take (i + 1) w) s at (at + (i + 1))
-  word_more h g e =
-      let f : take i w ++ (get_or w i 0 ∷ []) ≡ take (i + 1) w = sym (ap (λ (j : ℕ). take j w) (add-one i) ∙ take-suc w i 0 h) in
-      let j : at + i + 1 ≡ at + (i + 1) = omega arith in
-      subst (Stands (take (i + 1) w) s at) j (subst (λ (x : List ℕ). Stands x s at (at + i + 1)) f (stands_join (a (omega arith)) (stands_one (get_or w i 0) e g)))
+pub begun_none : (w s : List ℕ) (at : ℕ) → Begun w s at 0 at
+begun_none w s at = record { next_is = omega arith; within = omega arith; room = omega arith; stands = λ h. record { is = refl; after = omega arith; within = h } }
 
-  pub word-part : i < length w → (byte_at s (at + i) ≡ get_or w i 0 → ⊥) → WordRead w s at (at + i)
-  word-part h z =
+module _ {w s : List ℕ} {at i next : ℕ} (a : Begun w s at i next) where
+  pub begun_more : (b : ℕ) → i < length w → b ≡ get_or w i 0 → slice_get s next ≡ Some b → Begun w s at (i + 1) (next + 1)
+  begun_more b h e g =
+      let l = slice_get_within s next b g in
+      let f : take i w ++ (b ∷ []) ≡ take (i + 1) w =
+      ap (λ (c : ℕ). take i w ++ (c ∷ [])) e ∙ sym (ap (λ (j : ℕ). take j w) (add-one i) ∙ take-suc w i 0 h) in
       record {
-        whole = λ _ e. absurd (omega arith);
-        part = λ k _.
-            record {
-              after = omega arith;
-              within = (a k).within;
-              begun = (take i w, drop i w, (a k).is, take-append-drop i w);
-              none = λ s' g (v, t, e, d).
-                  let x : take i w ++ drop (at + i) s' ≡ take i w ++ (get_or w i 0 ∷ (drop (suc i) w ++ t)) =
-                  sym (stands_same s' (a k) (agree_less (omega arith) g)) ∙ d
-                  ∙ ap (λ (y : List ℕ). y ++ t) (e ∙ split_at w i 0 h) ∙ append_assoc (take i w) (get_or w i 0 ∷ drop (suc i) w) t in
-                  z (agree-byte (at + i) (omega arith) g
-                  ∙ byte-drop s' (at + i) (get_or w i 0) (drop (suc i) w ++ t) (append_cancel_left (take i w) _ _ x));
-            };
-        past = λ k. omega arith;
+        next_is = omega (arith, a.next_is);
+        within = omega arith;
+        room = omega (arith, a.next_is, a.room);
+        stands = λ k. subst (λ (x : List ℕ). Stands x s at (next + 1)) f (stands_join (a.stands k) (stands_one b g));
       }
 
-  pub word-whole : length w ≤ i → i ≤ length w → WordRead w s at (at + i)
-  word-whole h g =
+  pub begun-part : (b : ℕ) → i < length w → b ≡ get_or w i 0 → (slice_get s next ≡ Some b → ⊥) → at ≤ length s → Stops (λ v. v ≡ w) s at next
+  begun-part b h e z k =
+      let o = a.stands k in
       record {
-        whole = λ k _. subst (λ (x : List ℕ). Stands x s at (at + i)) (take_all i w h) (a k);
-        part = λ _ z. absurd (z (omega arith));
-        past = λ k. omega arith;
+        after = o.after;
+        within = o.within;
+        begun = (take i w, drop i w, o.is, take-append-drop i w);
+        none = λ s' g (v, t, m, d).
+            let x : take i w ++ drop next s' ≡ take i w ++ (get_or w i 0 ∷ (drop (suc i) w ++ t)) =
+            sym (stands_same s' o (agree_less (omega arith) g)) ∙ d
+            ∙ ap (λ (y : List ℕ). y ++ t) (m ∙ split_at w i 0 h) ∙ append_assoc (take i w) (get_or w i 0 ∷ drop (suc i) w) t in
+            z (agree-byte next (omega arith) g
+            ∙ byte-drop s' next (get_or w i 0) (drop (suc i) w ++ t) (append_cancel_left (take i w) _ _ x)
+            ∙ ap (λ (c : ℕ). Some c) (sym e));
       }
+
+  pub begun-whole : length w ≤ i → WordStands w s at next
+  begun-whole h =
+      record {
+        ends = omega (arith, a.next_is, a.within);
+        stands = λ k. subst (λ (x : List ℕ). Stands x s at next) (take_all i w h) (a.stands k);
+        past = λ k. omega (arith, a.next_is, a.room);
+      }
+
+-- ── Bytes ──
+
+pub byte_stops : (s : List ℕ) (at b : ℕ) → (slice_get s at ≡ Some b → ⊥) → at ≤ length s → Stops (λ v. v ≡ b ∷ []) s at at
+byte_stops s at b z h = stops_here b h z (λ w e. ([], e)) (b ∷ []) refl
+
+-- A digit is read, or the fault is at the place.
+pub digit_read : {s : List ℕ} {at d : ℕ} (r : Option ℕ) → DigitRead s at r → ok_or {E = Fault} r (record { 0 = at }) ≡ Ok d → (d < 10) × Stands ((48 + d) ∷ []) s at (at + 1)
+digit_read {s} {at} {d} (Some e) h g = let q : e ≡ d = cc in subst (λ (k : ℕ). (k < 10) × Stands ((48 + k) ∷ []) s at (at + 1)) q h
+digit_read None h g = cc
+
+-- What a comparison with a byte tells.
+pub is_byte : (x : Option ℕ) (b : ℕ) → false ≡ not (option_eq eqb x (Some b)) → x ≡ Some b
+is_byte (Some a) b h = ap (λ (c : ℕ). Some c) (eqb-true a b (not-false (eqb a b) (sym h)))
+is_byte None b h = cc
+
+pub not_byte : (x : Option ℕ) (b : ℕ) → true ≡ not (option_eq eqb x (Some b)) → x ≡ Some b → ⊥
+not_byte (Some a) b h e = eqb-false a b (not-true (eqb a b) (sym h)) cc
+not_byte None b h e = cc
+
+-- No digit, and the fault is at the place.
+pub digit_fault : {s : List ℕ} {at : ℕ} {e : Fault} (limit : ℕ) (r : Option ℕ) → DigitRead s at r → ok_or {E = Fault} r (record { 0 = at }) ≡ Err e
+    → NumberRead s at limit at (Err e)
+digit_fault {s} {at} {e} limit None h g =
+    let q : e.0 ≡ at = cc in
+    (refl, λ k. subst (Halts Numeral Numbered s at) (sym q) (number-none s at k h), λ _. q)
+digit_fault limit (Some d) h g = cc
+
+-- A digit in what follows a place.
+pub rest_digit : (s : List ℕ) (n i next : ℕ) → next ≡ n + i → i < length (take (length s - n) (drop n s))
+    → IsDigit (get_or (take (length s - n) (drop n s)) i 0)
+    → let b = get_or (take (length s - n) (drop n s)) i 0 in (b - 48 < 10) × Stands ((48 + (b - 48)) ∷ []) s next (next + 1)
+rest_digit s n i next e h d =
+    let within : i < length s - n = omega (arith, length-take (length s - n) (drop n s), length-drop n s) in
+    let same : get_or (take (length s - n) (drop n s)) i 0 ≡ get_or s next 0 =
+    get_or-take (length s - n) (drop n s) i 0 within ∙ get_or-drop n s i 0 ∙ ap (λ (j : ℕ). get_or s j 0) (sym e) in
+    let again : get_or s next 0 ≡ 48 + (get_or (take (length s - n) (drop n s)) i 0 - 48) = omega (arith, d, same) in
+    (omega (arith, d), stands_one _ (slice_get-get_or s next 0 (omega arith) ∙ ap (λ (b : ℕ). Some b) again))

@@ -1,6 +1,7 @@
 -- Words of which none begins another: which one stands is told by the bytes.
 use mathlib.Core.Path.{◌≡◌, refl, sym, subst}
 use mathlib.Core.Bool.{Bool, true, false, cond, ◌&&◌, ◌||◌}
+use mathlib.Core.Logic.{◌⊎◌, inl, inr}
 use mathlib.Core.List.{List, [], ◌∷◌, ◌++◌, head-eq_of_cons-eq, tail-eq_of_cons-eq}
 use Prim.Native.Nat.{ℕ}
 use borrow.Author.Tests.{eqb-true, eqb-false, eq-eqb}
@@ -22,15 +23,34 @@ all_elem P (j ∷ ks) (p, a) k h = go (eqb j k) refl h (all_elem P ks a k)
     go true e g f = subst P (eqb-true j k e) p
     go false e g f = f g
 
-pub elem_here : (k : ℕ) (ks : List ℕ) → T (elem k (k ∷ ks))
-elem_here k ks = rw (eq-eqb k k refl) tt
-
-pub elem_there : (j k : ℕ) (ks : List ℕ) → T (elem k ks) → T (elem k (j ∷ ks))
-elem_there j k ks h = go (eqb j k)
+-- A member of a list with one more at its end is one of the list or the last.
+pub elem_split : (k j : ℕ) (ks : List ℕ) → T (elem k (ks ++ j ∷ [])) → T (elem k ks) ⊎ (j ≡ k)
+elem_split k j [] h = go (eqb j k) refl h
   where
-    go : (b : Bool) → T (b || elem k ks)
-    go true = tt
-    go false = h
+    go : (b : Bool) → eqb j k ≡ b → T (b || false) → T (elem k []) ⊎ (j ≡ k)
+    go true e g = inr (eqb-true j k e)
+    go false e g = absurd g
+elem_split k j (i ∷ ks) h = go (eqb i k) h (elem_split k j ks)
+  where
+    go : (b : Bool) → T (b || elem k (ks ++ j ∷ [])) → (T (elem k (ks ++ j ∷ [])) → T (elem k ks) ⊎ (j ≡ k)) → T (b || elem k ks) ⊎ (j ≡ k)
+    go true g f = inl tt
+    go false g f = f g
+
+pub elem_first : (k j : ℕ) (ks : List ℕ) → T (elem k ks) → T (elem k (ks ++ j ∷ []))
+elem_first k j [] h = absurd h
+elem_first k j (i ∷ ks) h = go (eqb i k) h (elem_first k j ks)
+  where
+    go : (b : Bool) → T (b || elem k ks) → (T (elem k ks) → T (elem k (ks ++ j ∷ []))) → T (b || elem k (ks ++ j ∷ []))
+    go true g f = tt
+    go false g f = f g
+
+pub elem_last : (j : ℕ) (ks : List ℕ) → T (elem j (ks ++ j ∷ []))
+elem_last j [] = rw (eq-eqb j j refl) tt
+elem_last j (i ∷ ks) = go (eqb i j) (elem_last j ks)
+  where
+    go : (b : Bool) → T (elem j (ks ++ j ∷ [])) → T (b || elem j (ks ++ j ∷ []))
+    go true f = tt
+    go false f = f
 
 -- ── Words that are apart ──
 

@@ -3,4 +3,3 @@ pub mod Places
 pub mod Words
 pub mod Number
 pub mod Scan
-pub mod Writer

@@ -1,8 +1,8 @@
 -- What a line of bytes is, for any way of spelling: too long, or broken at a place, or the line of some x. Every reader of lines answers in these terms.
 use Rattle.std.specs.Prelude.{◌≡◌, List, ℕ, suc, ◌≤◌, ◌<◌, length, take}
 use Rattle.std.proofs.Math.Option.{Option, none, some}
-use Rattle.trace.specs.declared.Refusal.{Refusal}
-use Rattle.trace.specs.Refusal.{refused}
+use Rattle.trace.specs.declared.refusal.Refusal.{Refusal}
+use Rattle.trace.specs.declared.refusal.Refusal.TheVariants.{LongLine, Shape}
 use Rattle.text.specs.Limits.{most_bytes}
 
 -- Line s breaks at place p, counted from 0: some line has its first p bytes, and no line has its first p + 1. Where p is the length of s it is only
@@ -19,8 +19,8 @@ pub data Reading {X : Type 0} (spelled : X → List ℕ) (s : List ℕ) : Type 0
 
 -- The refusal of a line: 17, 18, or what `limits` refuses of what it spells.
 abbrev pub line_refusal : {X : Type 0} {spelled : X → List ℕ} {s : List ℕ} → (X → Option Refusal) → Reading spelled s → Option Refusal
-line_refusal limits (long h) = some (refused 17)
-line_refusal limits (breaks h p b) = some (refused 18)
+line_refusal limits (long h) = some LongLine
+line_refusal limits (breaks h p b) = some Shape
 line_refusal limits (spells h x e) = limits x
 
 -- Line s is taken as x, and line s is refused by e.

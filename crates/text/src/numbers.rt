@@ -1,102 +1,51 @@
-// Reading numbers at a place of a line.
-ghost use Rattle.std.specs.Prelude.{ℕ, ◌+◌, ◌*◌};
+// Reading numbers of a line.
+ghost use Rattle.std.specs.Prelude.{◌≡◌, ℕ, ◌+◌, ◌*◌};
 ghost use Rattle.text.specs.Inner.Scan.{DigitRead, Counts, NumberRead};
 
-use crate::scan::byte;
+use crate::scan::{Cursor, Fault};
 
-// The digit at a place, or 10 where there is none.
-fn digit(s: &[u8], at: usize) -> u64
-    ensures { DigitRead s.now at result }
+// The digit at a place.
+fn digit(line: &[u8], at: usize) -> Option<u64>
+    ensures { DigitRead line.now at result }
 {
-    let b = byte(s, at);
-    if b < 48 {
-        return 10;
+    let b = *line.get(at)?;
+    if !b.is_ascii_digit() {
+        return None;
     }
-    if 57 < b {
-        return 10;
-    }
-    (b - 48) as u64
+    Some((b - b'0') as u64)
 }
 
-// A number so far, or that it is above the limit.
-#[derive(Clone, Copy)]
-struct Count {
-    pub value: u64,
-    pub large: bool,
-}
-
-// One digit more.
-fn push(c: Count, digit: u64, limit: u64) -> Count
-    ensures { (n : ℕ) → Counts limit n c.value c.large → Counts limit (10 * n + digit) result.value result.large }
+// A number so far and one digit more; none where it is above the limit. The limit tells before anything can wrap: checked_mul and checked_add take longer.
+fn push(value: Option<u64>, digit: u64, limit: u64) -> Option<u64>
+    ensures { (n : ℕ) → Counts limit n value → Counts limit (10 * n + digit) result }
 {
-    if c.large {
-        return c;
+    let value = value?;
+    if limit < digit || (limit - digit) / 10 < value {
+        return None;
     }
-    if limit < digit {
-        return Count {
-            value: 0,
-            large: true,
-        };
-    }
-    if (limit - digit) / 10 < c.value {
-        return Count {
-            value: 0,
-            large: true,
-        };
-    }
-    Count {
-        value: 10 * c.value + digit,
-        large: false,
-    }
+    Some(10 * value + digit)
 }
 
-// A number within the limit, one above it, or none: in each case with the place at which the reader stopped.
-#[derive(Clone, Copy)]
-pub enum Number {
-    Small { value: u64, next: usize },
-    Large(usize),
-    FaultAt(usize),
-}
-
-// A decimal number without leading zeros.
-pub fn read_number(s: &[u8], at: usize, limit: u64) -> Number
-    ensures { NumberRead s.now at limit result }
-{
-    let first = digit(s, at);
-    if 9 < first {
-        return Number::FaultAt(at);
-    }
-    if first == 0 {
-        if digit(s, at + 1) < 10 {
-            return Number::FaultAt(at + 1);
+impl<'a> Cursor<'a> {
+    // Past a decimal number without leading zeros: its value, or none above the limit. A fault leaves the place as it was.
+    pub fn number(&mut self, limit: u64) -> Result<Option<u64>, Fault>
+        ensures line { self.new.line.now ≡ self.old.line.now }
+        ensures read { NumberRead self.old.line.now self.old.at limit self.new.at result }
+    {
+        let first = digit(self.line, self.at).ok_or(Fault(self.at))?;
+        let mut value = push(Some(0), first, limit);
+        let mut next = self.at + 1;
+        for b in &self.line[next..] {
+            if !b.is_ascii_digit() {
+                break;
+            }
+            if first == 0 {
+                return Err(Fault(next));
+            }
+            value = push(value, (*b - b'0') as u64, limit);
+            next += 1;
         }
-        return Number::Small {
-            value: 0,
-            next: at + 1,
-        };
-    }
-    let mut c = push(
-        Count {
-            value: 0,
-            large: false,
-        },
-        first,
-        limit,
-    );
-    let mut i = at + 1;
-    loop {
-        let d = digit(s, i);
-        if 9 < d {
-            break;
-        }
-        c = push(c, d, limit);
-        i += 1;
-    }
-    if c.large {
-        return Number::Large(i);
-    }
-    Number::Small {
-        value: c.value,
-        next: i,
+        self.at = next;
+        Ok(value)
     }
 }

@@ -1,50 +1,38 @@
-// Bytes put into a lent list, from a place on. What has no room is left out, and no place passes the list's end: so nothing is asked of the place.
-ghost use Rattle.std.specs.Prelude.{[], ◌∷◌};
+// Bytes put behind those of a vector, and values put into a lent list. What has no room is left out: so nothing is asked of either.
+ghost use Rattle.std.specs.Prelude.{◌≡◌, [], ◌∷◌, ◌++◌, take, set};
 ghost use Rattle.text.specs.Spelling.{digits};
-ghost use Rattle.text.specs.Inner.Writer.{Wrote, pair};
 
-// A byte at a place; the place after it.
-pub fn put_byte(out: &mut [u8], at: usize, b: u8) -> usize
-    ensures { Wrote (b ∷ []) out.old out.new at result }
+use arrayvec::ArrayVec;
+
+// A byte.
+pub fn put_byte<const N: usize>(out: &mut ArrayVec<u8, N>, b: u8)
+    ensures { out.new.items ≡ take N (out.old.items ++ b ∷ []) }
 {
-    if out.len() <= at {
-        return at;
-    }
-    out[at] = b;
-    at + 1
+    put_text(out, &[b])
 }
 
-// Bytes from a place on; the place after them.
-pub fn put_text(out: &mut [u8], at: usize, w: &[u8]) -> usize
-    ensures { Wrote w.now out.old out.new at result }
+// As many bytes of a text as have room.
+pub fn put_text<const N: usize>(out: &mut ArrayVec<u8, N>, w: &[u8])
+    ensures { out.new.items ≡ take N (out.old.items ++ w.now) }
 {
-    let mut to = at;
-    let mut i: usize = 0;
-    while i < w.len() {
-        to = put_byte(out, to, w[i]);
-        i += 1;
-    }
-    to
+    let end = out.remaining_capacity().min(w.len());
+    let _all = out.try_extend_from_slice(&w[..end]);
 }
 
-// The last two digits of a number.
-fn put_pair(out: &mut [u8], at: usize, n: u64) -> usize
-    ensures { Wrote (pair n) out.old out.new at result }
+// A number in decimal.
+#[tactic(auto, using(crate::proofs::WriterLaw::digits_decimal))]
+pub fn put_number<const N: usize>(out: &mut ArrayVec<u8, N>, n: u64)
+    ensures { out.new.items ≡ take N (out.old.items ++ digits n) }
 {
-    let p = put_byte(out, at, (48 + n / 10 % 10) as u8);
-    put_byte(out, p, (48 + n % 10) as u8)
+    let mut digits = itoa::Buffer::new();
+    put_text(out, digits.format(n).as_bytes())
 }
 
-// A number in decimal, two digits a call: half the calls.
-pub fn put_number(out: &mut [u8], at: usize, n: u64) -> usize
-    ensures { Wrote (digits n) out.old out.new at result }
+// A value at a place of a lent list, nothing past the list's end. By `get_mut` the proof did not close: its goals name values of Rattle's own.
+pub fn put<T: Copy>(out: &mut [T], at: usize, v: T)
+    ensures { out.new ≡ set out.old at v }
 {
-    if n < 10 {
-        return put_byte(out, at, (48 + n) as u8);
+    if at < out.len() {
+        out[at] = v;
     }
-    if n < 100 {
-        return put_pair(out, at, n);
-    }
-    let p = put_number(out, at, n / 100);
-    put_pair(out, p, n)
 }

@@ -1,34 +1,86 @@
-// Reading bytes and words at a place of a line.
-ghost use Rattle.std.specs.Prelude.{◌≡◌, ◌||◌, ◌<◌, length};
-ghost use Rattle.text.specs.Inner.Places.{byte_at};
-ghost use Rattle.text.specs.Inner.Scan.{WordRead};
+// Reading bytes and words of a line, from a place on.
+ghost use Rattle.std.specs.Prelude.{◌≡◌, max, slice_get};
+ghost use Rattle.trace.specs.declared.refusal.Refusal.TheVariants.{Shape};
+ghost use Rattle.text.specs.Inner.Scan.{ByteRead, WordRead, EndRead};
+
+use trace::Refusal;
 
 // The most bytes of a line.
 pub const MOST_BYTES: usize = 16384;
 
-// The byte at a place, 256 past the end.
-pub fn byte(s: &[u8], at: usize) -> u16
-    ensures { (result ≡ byte_at s.now at) × (result < 256 → at < length s.now) }
-{
-    if at < s.len() { s[at] as u16 } else { 256 }
-}
+// The place of a line at which nothing can follow of what is read.
+#[derive(Clone, Copy, Debug, PartialEq, Eq)]
+pub struct Fault(pub usize);
 
-// How far a word stands at a place.
-pub fn match_word(s: &[u8], at: usize, w: &[u8]) -> usize
-    ensures { WordRead w.now s.now at result }
-{
-    let mut i: usize = 0;
-    while i < w.len() {
-        if byte(s, at + i) != w[i] as u16 {
-            return at + i;
-        }
-        i += 1;
+// A line with a fault has not the shape of its kind.
+impl From<Fault> for Refusal {
+    ghost from_gives = { λ _ e. e ≡ Shape };
+
+    fn from(_fault: Fault) -> Refusal {
+        Refusal::Shape
     }
-    at + i
 }
 
-pub fn either(a: bool, b: bool) -> bool
-    ensures { result ≡ (a || b) }
+impl Fault {
+    // Where neither of two readings can go on: the further of the two.
+    pub fn further(self, other: Fault) -> Fault
+        ensures { result.0 ≡ max self.0 other.0 }
+    {
+        Fault(self.0.max(other.0))
+    }
+}
+
+// A line, and the place from which it is read. Nothing is asked of the place, by an invariant either: past the line's end nothing stands. A value behind `&mut` may be
+// changed as a whole, so each reader says that the line stays.
+#[derive(Clone, Copy, Debug)]
+pub struct Cursor<'a> {
+    pub line: &'a [u8],
+    pub at: usize,
+}
+
+// The byte at a place.
+pub fn byte(line: &[u8], at: usize) -> Option<u8>
+    ensures { result ≡ slice_get line.now at }
 {
-    if a { true } else { b }
+    line.get(at).copied()
+}
+
+impl<'a> Cursor<'a> {
+    // Past a byte, where it stands.
+    pub fn accept(&mut self, b: u8) -> bool
+        ensures line { self.new.line.now ≡ self.old.line.now }
+        ensures read { ByteRead b self.old.line.now self.old.at self.new.at result }
+    {
+        if byte(self.line, self.at) != Some(b) {
+            return false;
+        }
+        self.at += 1;
+        true
+    }
+
+    // Past a word. A fault leaves the place as it was.
+    pub fn expect(&mut self, word: &[u8]) -> Result<(), Fault>
+        ensures line { self.new.line.now ≡ self.old.line.now }
+        ensures read { WordRead word.now self.old.line.now self.old.at self.new.at result }
+    {
+        let mut next = self.at;
+        for b in word {
+            if byte(self.line, next) != Some(*b) {
+                return Err(Fault(next));
+            }
+            next += 1;
+        }
+        self.at = next;
+        Ok(())
+    }
+
+    // The line's end.
+    pub fn end(&self) -> Result<(), Fault>
+        ensures { EndRead self.now.line.now self.now.at result }
+    {
+        if self.at < self.line.len() {
+            return Err(Fault(self.at));
+        }
+        Ok(())
+    }
 }

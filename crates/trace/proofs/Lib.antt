@@ -1,2 +1,3 @@
 pub mod JudgesLaw
 pub mod ClaimsLaw
+pub mod NumberLaw

@@ -1,19 +1,18 @@
 -- What the operations on traces answer.
-use Rattle.std.specs.Prelude.{cond, List, ℕ, ◌+◌, ◌*◌, ◌-◌, min, ◌≡◌, ltb, length, drop}
+use Rattle.std.specs.Prelude.{cond, List, ℕ, ◌+◌, ◌*◌, ◌-◌, min, ◌≡◌, ltb, length, drop, Result, Ok, Err}
 use Rattle.std.proofs.Math.Option.{Option, none, some}
 use Rattle.std.specs.Borrow.{Bor}
 use Rattle.logic.specs.Trace.{letter_at}
 use Rattle.trace.specs.Limits.{letter_bytes}
-use Rattle.trace.specs.Refusal.{refused}
-use Rattle.trace.specs.declared.Found.{Found}
-use Rattle.trace.specs.declared.Found.TheVariants.{Letter, Refused}
+use Rattle.trace.specs.declared.refusal.Refusal.{Refusal}
+use Rattle.trace.specs.declared.refusal.Refusal.TheVariants.{NoMoment}
 
 -- The letter of a moment, or refusal 25.
-abbrev pub found : Option ℕ → Found
-found (some x) = Letter x
-found none = Refused (refused 25)
+abbrev pub found : Option ℕ → Result ℕ Refusal
+found (some x) = Ok x
+found none = Err NoMoment
 
-abbrev pub LetterIs : List ℕ → List ℕ → ℕ → Found → Type 0
+abbrev pub LetterIs : List ℕ → List ℕ → ℕ → Result ℕ Refusal → Type 0
 LetterIs lead loop m r = r ≡ found (letter_at lead loop m)
 
 -- The rest of the list that a moment falls in, from that letter on: past both lists nothing.

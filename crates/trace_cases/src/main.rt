@@ -4,70 +4,61 @@
 use logic::Letter;
 use report::{say, show_letters};
 use std::io;
-use trace::{Found, Moment};
+use trace::{Moment, Refusal};
 
-const LARGEST: usize = 18446744073709551615;
+const LARGEST: usize = usize::MAX;
 
-fn tell(rt: &impl Print, name: &[u8], a: Found) -> io::Result<()> {
+fn tell(rt: &impl Print, name: &str, a: Result<Letter, Refusal>) -> io::Result<()> {
     match a {
-        Found::Letter(x) => say(rt, name, x as u64),
-        Found::Refused(x) => {
-            rt.write_all(name)?;
-            say(rt, b" refused", x.0 as u64)
-        }
+        Ok(x) => say(rt, name, u64::from(x)),
+        Err(x) => println!(rt; "{name} refused {}", u8::from(x)),
     }
 }
 
-fn look<'a>(
+// From the two lists, and by way of the view.
+fn look(
     rt: &impl Print,
-    name: &[u8],
-    lead: &'a [Letter],
-    cycle: &'a [Letter],
+    name: &str,
+    lead: &[Letter],
+    cycle: &[Letter],
     at: usize,
 ) -> io::Result<()> {
-    tell(rt, name, trace::letter_at(lead, cycle, Moment(at)))?;
-    show_letters(rt, b"  rest", trace::rest(lead, cycle, Moment(at)))?;
-    tell(
-        rt,
-        b"  by the view",
-        trace::letter_of(lead, cycle, Moment(at)),
-    )?;
-    show_letters(
-        rt,
-        b"  rest by the view",
-        trace::rest_of(lead, cycle, Moment(at)),
-    )
+    let m = Moment(at);
+    tell(rt, name, trace::letter_at(lead, cycle, m))?;
+    show_letters(rt, "  rest", trace::rest(lead, cycle, m))?;
+    tell(rt, "  by the view", trace::letter_of(lead, cycle, m))?;
+    show_letters(rt, "  rest by the view", trace::rest_of(lead, cycle, m))
 }
 
 fn looping(rt: &impl Print) -> io::Result<()> {
     let lead = [11u32, 12, 13];
     let cycle = [21u32, 22];
-    look(rt, b"first letter", &lead, &cycle, 0)?;
-    look(rt, b"inside the lead-in", &lead, &cycle, 1)?;
-    look(rt, b"last of the lead-in", &lead, &cycle, 2)?;
-    look(rt, b"first of the loop", &lead, &cycle, 3)?;
-    look(rt, b"last of the loop", &lead, &cycle, 4)?;
-    look(rt, b"once round", &lead, &cycle, 5)?;
-    look(rt, b"once round, last", &lead, &cycle, 6)?;
-    look(rt, b"the largest moment", &lead, &cycle, LARGEST)
+    look(rt, "first letter", &lead, &cycle, 0)?;
+    look(rt, "inside the lead-in", &lead, &cycle, 1)?;
+    look(rt, "last of the lead-in", &lead, &cycle, 2)?;
+    look(rt, "first of the loop", &lead, &cycle, 3)?;
+    look(rt, "last of the loop", &lead, &cycle, 4)?;
+    look(rt, "once round", &lead, &cycle, 5)?;
+    look(rt, "once round, last", &lead, &cycle, 6)?;
+    look(rt, "the largest moment", &lead, &cycle, LARGEST)
 }
 
 fn loop_alone(rt: &impl Print) -> io::Result<()> {
     let cycle = [5u32, 4294967295, 7];
-    look(rt, b"no lead-in, first", &[], &cycle, 0)?;
-    look(rt, b"no lead-in, largest letter", &[], &cycle, 1)?;
-    look(rt, b"no lead-in, once round", &[], &cycle, 3)?;
-    look(rt, b"no lead-in, the largest moment", &[], &cycle, LARGEST)
+    look(rt, "no lead-in, first", &[], &cycle, 0)?;
+    look(rt, "no lead-in, largest letter", &[], &cycle, 1)?;
+    look(rt, "no lead-in, once round", &[], &cycle, 3)?;
+    look(rt, "no lead-in, the largest moment", &[], &cycle, LARGEST)
 }
 
 fn finite(rt: &impl Print) -> io::Result<()> {
     let lead = [11u32, 12, 13];
-    look(rt, b"finite, inside", &lead, &[], 1)?;
-    look(rt, b"finite, last letter", &lead, &[], 2)?;
-    look(rt, b"finite, at its length", &lead, &[], 3)?;
-    look(rt, b"finite, the largest moment", &lead, &[], LARGEST)?;
-    look(rt, b"empty trace", &[], &[], 0)?;
-    look(rt, b"empty trace, the largest moment", &[], &[], LARGEST)
+    look(rt, "finite, inside", &lead, &[], 1)?;
+    look(rt, "finite, last letter", &lead, &[], 2)?;
+    look(rt, "finite, at its length", &lead, &[], 3)?;
+    look(rt, "finite, the largest moment", &lead, &[], LARGEST)?;
+    look(rt, "empty trace", &[], &[], 0)?;
+    look(rt, "empty trace, the largest moment", &[], &[], LARGEST)
 }
 
 fn main(rt: HostRuntime) -> io::Result<()> {

@@ -9,7 +9,7 @@ use lib.Dec.{leb}
 use lib.ListN.{length}
 use Rattle.trace.specs.Limits.{most_letters}
 use Rattle.logic.specs.Trace.{size}
-use Rattle.trace.specs.Refusal.{refused}
+use Rattle.trace.specs.declared.refusal.Refusal.TheVariants.{LargeLetter, ManyLetters, ListRoom}
 use Rattle.text.proofs.LimitsLaw.{passed, third}
 use Rattle.trace_lines.specs.Spelling.{TraceLists}
 use Rattle.trace_lines.specs.TraceAnswer.{large_letter, trace_limits, trace_refusal}
@@ -23,12 +23,12 @@ module _ (t : TraceLists) where
 
   pub limits-short : trace_limits t ≡ none → size t.lead t.loop ≤ most_letters
   unfolding trace_limits
-  limits-short e = leb-true _ _ (passed letters short (refused 21) (refused 22) e).1
+  limits-short e = leb-true _ _ (passed letters short LargeLetter ManyLetters e).1
 
   pub trace-room : (a b : ℕ) → most_letters ≤ a → most_letters ≤ b → trace_refusal a b t ≡ trace_limits t
   unfolding trace_limits trace_refusal
   trace-room a b h i =
-      third letters short (leb (length t.lead) a && leb (length t.loop) b) (refused 21) (refused 22) (refused 23) (λ p q.
+      third letters short (leb (length t.lead) a && leb (length t.loop) b) LargeLetter ManyLetters ListRoom (λ p q.
       let few = leb-true (size t.lead t.loop) most_letters q in
       both (le-leb (length t.lead) a (omega arith)) (le-leb (length t.loop) b (omega arith)))
     where

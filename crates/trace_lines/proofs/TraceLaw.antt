@@ -1,31 +1,32 @@
 -- What each way out of the reader of a trace line gives, in terms of how traces are spelled. So no two traces are spelled alike.
-use mathlib.Core.Path.{◌≡◌, refl, ap, sym, ◌∙◌}
-use mathlib.Core.Bool.{Bool, true, false, ◌||◌, or-false}
+use mathlib.Core.Path.{◌≡◌, refl, ap, sym, subst, ◌∙◌}
+use mathlib.Core.Bool.{Bool, true, false, ◌||◌}
 use mathlib.Core.Option.{none, some}
 use mathlib.Core.List.{List, [], ◌∷◌, ◌++◌, append-nil, append_cancel_left, head-eq_of_cons-eq, tail-eq_of_cons-eq}
-use Prim.Native.Nat.{ℕ, suc, ◌+◌, ◌<◌, ◌≤◌}
+use Prim.Native.Nat.{ℕ, suc, ◌+◌, max, ◌<◌, ◌≤◌}
 use native.Mathlib.Omega.{arith}
-use borrow.Author.Tests.{lt-leb, le-leb}
+use borrow.Author.Tests.{lt-leb, le-leb, ltb-true, ltb-false}
 use lib.ListN.{length, drop}
 use lib.Seq.{sets, drop-length}
-use lib.Dec.{leb}
-use Rattle.trace.specs.Refusal.{refused}
+use lib.Dec.{leb, ltb}
+use Rattle.trace.specs.declared.refusal.Refusal.{Refusal}
+use Rattle.trace.specs.declared.refusal.Refusal.TheVariants.{LongLine, Shape, LargeLetter, ManyLetters, ListRoom}
+use Rattle.std.specs.Prelude.{Option, Some, None, Result, Ok, Err}
+use Rattle.std.specs.Option.{ok_or}
 use Rattle.text.specs.Text.{text}
 use Rattle.trace_lines.specs.Spelling.{TraceLists, trace_line, line_of_trace}
 use Rattle.text.specs.Limits.{most_bytes}
 use Rattle.text.specs.Reading.{long, breaks, spells}
 use Rattle.trace_lines.specs.TraceAnswer.{large_letter, trace_limits, trace_refusal, TraceAnswer}
-use Rattle.text.specs.Inner.Places.{byte_at, Stands, Agree, Language, Begins, Stops, StopsLine}
-use Rattle.trace_lines.specs.Inner.LettersReader.{further, listed, Any, Some, Spelled, LettersStand, finite_rest, lasso_rest, whole_line, ListsStand, ListsRead}
-use Rattle.trace_lines.specs.declared.Lists.{Lists}
-use Rattle.trace_lines.specs.declared.Lists.TheVariants.{Found, FaultAt}
-use Rattle.trace_lines.specs.declared.TraceLine.TheVariants.{Letters, Refused}
+use Rattle.text.specs.declared.scan.Fault.{Fault}
+use Rattle.text.specs.Inner.Places.{Stands, Agree, Language, Begins, Stops, StopsLine}
+use Rattle.trace_lines.specs.Inner.LettersReader.{further, listed, Any, NonEmpty, Spelled, LettersStand, finite_rest, lasso_rest, whole_line, ListsRead}
+use Rattle.trace_lines.specs.declared.Lengths.{Lengths}
 use Rattle.text.proofs.ReadingLaw.{breaks-at, front-sets}
 use Rattle.table.proofs.StoreLaw.{and-false}
-use Rattle.text.proofs.PlaceLaw.{agree_self, agree_less, stands_one, stands_join, stops_here, halts-first, halts-after, stops_line, Nothing, stops_end}
+use Rattle.text.proofs.PlaceLaw.{agree_self, agree_less, halts-first, halts-after, stops_line, Nothing, stops_end}
 use Rattle.text.proofs.NumberLaw.{ending_unique}
 use Rattle.trace_lines.proofs.LettersLaw.{list_unique}
-use Rattle.table.proofs.CheckLaw.{either-false}
 
 abbrev Both : (List ℕ → List ℕ → Language) → Language
 Both F w = (lead : List ℕ) × (loop : List ℕ) × F lead loop w
@@ -43,26 +44,13 @@ finite-no a = halts-first a (λ w (xs, _, e). ([], (xs, [], append-nil w ∙ e))
     dec {x} (lead, [], e) = (x, [], (lead, tt, e), sym (append-nil x))
     dec (lead, y ∷ loop, e) = absurd e
 
-module _ {s xs : List ℕ} {at next count : ℕ} {large : Bool} {l l' : List ℕ} (a : LettersStand (further xs) xs s at 0 next count large l l') where
-  pub finite_tail : (next ≡ length s → ⊥) → StopsLine (Both finite_rest) s at next
-  finite_tail z = halts-after a.stands (stops_end s next (omega (arith, a.stands.within))) (λ x e. (xs, [], ap (λ (y : List ℕ). further xs ++ y) e ∙ append-nil (further xs))) (λ s' g. dec)
+module _ {s xs : List ℕ} {at next : ℕ} {count : Option ℕ} {l l' : List ℕ} (a : LettersStand (further xs) xs s at next (Some 0) count l l') where
+  pub finite_tail : next < length s → StopsLine (Both finite_rest) s at next
+  finite_tail z = halts-after a.stands (stops_end s next z) (λ x e. (xs, [], ap (λ (y : List ℕ). further xs ++ y) e ∙ append-nil (further xs))) (λ s' g. dec)
     where
       dec : {x : List ℕ} → Both finite_rest (further xs ++ x) → Nothing x
       dec {x} (lead, [], e) = (ending_unique xs lead x [] (e ∙ sym (append-nil (further lead)))).1
       dec (lead, y ∷ loop, e) = absurd e
-
-  pub finite-read : next ≡ length s → (m : List ℕ) → ListsRead finite_rest s at l m l' m (Found count 0 large)
-  finite-read z m = (
-    xs,
-    [],
-    at_end a.stands z,
-    record {
-      leads = omega (arith, a.counted);
-      loops = refl;
-      wide = a.wide ∙ sym (or-false (large_letter xs));
-      written = λ e. (a.written e, refl);
-    },
-  )
 
 -- ── After `(lasso (` ──
 
@@ -104,44 +92,27 @@ module _ {s : List ℕ} (xs : List ℕ) {at next : ℕ} (a : Stands (listed xs) 
     in_loop : {p : ℕ} → StopsLine Loop s mid p → StopsLine (Both lasso_rest) s at p
     in_loop b = after-lead (halts-after o b (λ x (y, ys, e). (y, ys, ap (λ (z : List ℕ). text " (" ++ z) e)) (λ s' g (y, ys, e). (y, ys, append_cancel_left (text " (") _ _ e)))
 
-    pub loop-no : {p : ℕ} → Stops (Spelled listed Some) s mid p → StopsLine (Both lasso_rest) s at p
+    pub loop-no : {p : ℕ} → Stops (Spelled listed NonEmpty) s mid p → StopsLine (Both lasso_rest) s at p
     loop-no b = in_loop (halts-first b inc (λ s' g (y, ys, e). (listed (y ∷ ys), text ")", (y ∷ ys, tt, refl), e)))
       where
-        inc : (w : List ℕ) → Spelled listed Some w → (x : List ℕ) × Loop (w ++ x)
+        inc : (w : List ℕ) → Spelled listed NonEmpty w → (x : List ℕ) × Loop (w ++ x)
         inc w ([], h, _) = absurd h
         inc w (y ∷ ys, _, e) = (text ")", (y, ys, ap (λ (z : List ℕ). z ++ text ")") e))
 
-    module _ (ys : List ℕ) (h : Some ys) {end : ℕ} (b : Stands (listed ys) s mid end) where
+    module _ (ys : List ℕ) (h : NonEmpty ys) {end : ℕ} (b : Stands (listed ys) s mid end) where
       after-loop : {p : ℕ} → StopsLine Close s end p → StopsLine (Both lasso_rest) s at p
       after-loop c = in_loop (halts-after b c (inc ys h) (λ s' g (z, zs, e). (list_unique ys (z ∷ zs) _ (text ")") e).1))
         where
-          inc : (ys : List ℕ) → Some ys → (x : List ℕ) → Close x → Loop (listed ys ++ x)
+          inc : (ys : List ℕ) → NonEmpty ys → (x : List ℕ) → Close x → Loop (listed ys ++ x)
           inc [] h x e = absurd h
           inc (y ∷ ys) h x e = (y, ys, ap (λ (z : List ℕ). listed (y ∷ ys) ++ z) e)
 
-      pub lasso_open : (byte_at s end ≡ 41 → ⊥) → StopsLine (Both lasso_rest) s at end
-      lasso_open z = after-loop (stops_line (stops_here 41 b.within z (λ x e. ([], e)) (text ")") refl))
+      pub lasso_open : {p : ℕ} → Stops Close s end p → StopsLine (Both lasso_rest) s at p
+      lasso_open z = after-loop (stops_line z)
 
-      pub lasso_tail : byte_at s end ≡ 41 → end < length s → (end + 1 ≡ length s → ⊥) → StopsLine (Both lasso_rest) s at (end + 1)
-      lasso_tail e i z =
-          after-loop (halts-after (stands_one 41 e i) (stops_end s (end + 1) (omega arith)) (λ x d. ap (λ (u : List ℕ). 41 ∷ u) d) (λ s' g d. tail-eq_of_cons-eq d))
-
-pub lasso_read : {s xs : List ℕ} {at next count : ℕ} {large : Bool} {l l' : List ℕ} → LettersStand (listed xs) xs s at 0 next count large l l'
-    → {mid : ℕ} → Stands (text " (") s next mid → (ys : List ℕ) → Some ys → {end all : ℕ} {wide : Bool} {m m' : List ℕ}
-    → LettersStand (listed ys) ys s mid 0 end all wide m m' → byte_at s end ≡ 41 → end < length s → end + 1 ≡ length s
-    → (b : Bool) → b ≡ (large || wide) → ListsRead lasso_rest s at l m l' m' (Found count all b)
-lasso_read a o [] h c e i z b u = absurd h
-lasso_read {xs = xs} {large = large} a o (y ∷ ys) h {wide = wide} c e i z b u = (
-  xs,
-  y ∷ ys,
-  at_end (stands_join a.stands (stands_join o (stands_join c.stands (stands_one 41 e i)))) z,
-  record {
-    leads = omega (arith, a.counted);
-    loops = omega (arith, c.counted);
-    wide = u ∙ ap (λ (x : Bool). x || wide) a.wide ∙ ap (λ (x : Bool). large_letter xs || x) c.wide;
-    written = λ n. let (p, q) = either-false large wide (sym u ∙ n) in (a.written p, c.written q);
-  },
-)
+      pub lasso_tail : {p : ℕ} → Stands (text ")") s end p → p < length s → StopsLine (Both lasso_rest) s at p
+      lasso_tail {p} e z =
+          after-loop (halts-after e (stops_end s p z) (λ x d. ap (λ (u : List ℕ). 41 ∷ u) d) (λ s' g d. tail-eq_of_cons-eq d))
 
 -- ── The whole line ──
 
@@ -156,10 +127,10 @@ not_both : (lead loop : List ℕ) → text "(finite" ++ lead ≡ text "(lasso ("
 not_both lead loop e = omega (arith, head-eq_of_cons-eq (tail-eq_of_cons-eq e))
 
 module _ (s l m l' m' : List ℕ) where
-  pub finite_line : Stands (text "(finite") s 0 7 → (r : Lists) → ListsRead finite_rest s 7 l m l' m' r → ListsRead whole_line s 0 l m l' m' r
-  finite_line o (Found a b large) (lead, [], e, x) = (lead, [], o.is ∙ ap (λ (y : List ℕ). text "(finite" ++ y) e, x)
-  finite_line o (Found a b large) (lead, z ∷ loop, e, x) = absurd e
-  finite_line o (FaultAt p) b = halts-after o b inc (λ s' g. dec)
+  pub finite_line : {j : ℕ} → Stands (text "(finite") s 0 j → (r : Result (Option Lengths) Fault) → ListsRead finite_rest s j l m l' m' r → ListsRead whole_line s 0 l m l' m' r
+  finite_line o (Ok k) (lead, [], e, x) = (lead, [], o.is ∙ ap (λ (y : List ℕ). text "(finite" ++ y) e, x)
+  finite_line o (Ok k) (lead, z ∷ loop, e, x) = absurd e
+  finite_line o (Err f) b = halts-after o b inc (λ s' g. dec)
     where
       inc : (w : List ℕ) → Both finite_rest w → Both whole_line (text "(finite" ++ w)
       inc w (lead, [], e) = (lead, [], ap (λ (y : List ℕ). text "(finite" ++ y) e)
@@ -169,10 +140,10 @@ module _ (s l m l' m' : List ℕ) where
       dec (lead, [], e) = (lead, [], append_cancel_left (text "(finite") _ _ e)
       dec {x} (lead, z ∷ loop, e) = absurd (not_both x _ e)
 
-  pub lasso_line : Stands (text "(lasso (") s 0 8 → (r : Lists) → ListsRead lasso_rest s 8 l m l' m' r → ListsRead whole_line s 0 l m l' m' r
-  lasso_line o (Found a b large) (lead, [], e, x) = absurd e
-  lasso_line o (Found a b large) (lead, z ∷ loop, e, x) = (lead, z ∷ loop, o.is ∙ ap (λ (y : List ℕ). text "(lasso (" ++ y) e, x)
-  lasso_line o (FaultAt p) b = halts-after o b inc (λ s' g. dec)
+  pub lasso_line : {j : ℕ} → Stands (text "(lasso (") s 0 j → (r : Result (Option Lengths) Fault) → ListsRead lasso_rest s j l m l' m' r → ListsRead whole_line s 0 l m l' m' r
+  lasso_line o (Ok k) (lead, [], e, x) = absurd e
+  lasso_line o (Ok k) (lead, z ∷ loop, e, x) = (lead, z ∷ loop, o.is ∙ ap (λ (y : List ℕ). text "(lasso (" ++ y) e, x)
+  lasso_line o (Err f) b = halts-after o b inc (λ s' g. dec)
     where
       inc : (w : List ℕ) → Both lasso_rest w → Both whole_line (text "(lasso (" ++ w)
       inc w (lead, [], e) = absurd e
@@ -194,14 +165,24 @@ module _ {s : List ℕ} {p q : ℕ} (a : Stops Finite s 0 p) (b : Stops Lasso s 
   none-stands h i s' g (lead, [], e) = finite-not h s' g lead e
   none-stands h i s' g (lead, y ∷ loop, e) = lasso_not i s' g lead y loop e
 
-  pub neither_far : p < q → StopsLine (Both whole_line) s 0 q
-  neither_far h = halts-first b (λ w e. (rest, ([], 0 ∷ [], ap (λ (x : List ℕ). x ++ rest) e))) (λ s' g x. absurd (none-stands (omega arith) (omega arith) s' g x))
+  pub neither : {r : ℕ} → r ≡ max p q → StopsLine (Both whole_line) s 0 r
+  neither {r} e = go (ltb p q) refl
     where
       rest : List ℕ
       rest = listed [] ++ (text " (" ++ (listed (0 ∷ []) ++ text ")"))
 
-  pub neither_near : q ≤ p → StopsLine (Both whole_line) s 0 p
-  neither_near h = halts-first a (λ w e. (text ")", ([], [], ap (λ (x : List ℕ). x ++ text ")") e))) (λ s' g x. absurd (none-stands (omega arith) (omega arith) s' g x))
+      no : {t : ℕ} → t ≡ r → (s' : List ℕ) → Agree (suc t) s s' → Both whole_line s' → ⊥
+      no d s' g x = none-stands (omega arith) (omega arith) s' g x
+
+      go : (c : Bool) → ltb p q ≡ c → StopsLine (Both whole_line) s 0 r
+      go true u =
+          let d : q ≡ r = omega (arith, ltb-true p q u) in
+          subst (StopsLine (Both whole_line) s 0) d
+          (halts-first b (λ w i. (rest, ([], 0 ∷ [], ap (λ (x : List ℕ). x ++ rest) i))) (λ s' g x. absurd (no d s' g x)))
+      go false u =
+          let d : p ≡ r = omega (arith, ltb-false p q u) in
+          subst (StopsLine (Both whole_line) s 0) d
+          (halts-first a (λ w i. (text ")", ([], [], ap (λ (x : List ℕ). x ++ text ")") i))) (λ s' g x. absurd (no d s' g x)))
 
 -- ── No two traces are spelled alike ──
 
@@ -225,66 +206,75 @@ trace_alone t u e =
 
 -- ── The answer ──
 
-pub too_long : (s l m : List ℕ) → most_bytes < length s → TraceAnswer s l m (Refused (refused 17)) l m
+pub too_long : (s l m : List ℕ) → most_bytes < length s → TraceAnswer s l m (Err LongLine) l m
 too_long s l m h = (record { reading = long h; reason = refl }, refl, refl)
 
-pub no-trace : (s l m : List ℕ) {p : ℕ} → length s ≤ most_bytes → StopsLine (Both whole_line) s 0 p → TraceAnswer s l m (Refused (refused 18)) l m
+pub no-trace : (s l m : List ℕ) {p : ℕ} → length s ≤ most_bytes → StopsLine (Both whole_line) s 0 p → TraceAnswer s l m (Err Shape) l m
 no-trace s l m {p} h a =
     (record { reading = breaks h p (breaks-at (λ w (lead, loop, e). (trace lead loop, e)) (λ t. (t.lead, t.loop, refl)) a); reason = refl }, refl, refl)
 
--- The line spells lead and loop, of a and b letters; c to d' are the lists of the reading without room.
-module _ {s : List ℕ} (l m lead loop : List ℕ) {a b : ℕ} {large : Bool} {c d c' d' : List ℕ} (h : length s ≤ most_bytes) (e : s ≡ trace_line lead loop)
-    (x : ListsStand lead loop a b large c d c' d') where
+-- The line spells lead and loop.
+module _ {s : List ℕ} (l m lead loop : List ℕ) (h : length s ≤ most_bytes) (e : s ≡ trace_line lead loop) where
   abbrev t : TraceLists
   t = trace lead loop
 
-  refuses : (n : ℕ) → trace_refusal (length l) (length m) t ≡ some (refused n) → TraceAnswer s l m (Refused (refused n)) l m
-  refuses n o = (record { reading = spells h t e; reason = o }, refl, refl)
+  refuses : (x : Refusal) → trace_refusal (length l) (length m) t ≡ some x → TraceAnswer s l m (Err x) l m
+  refuses x o = (record { reading = spells h t e; reason = o }, refl, refl)
 
-  pub large_letter_lem : large ≡ true → TraceAnswer s l m (Refused (refused 21)) l m
+  pub large_letter_lem : (large_letter lead || large_letter loop) ≡ true → TraceAnswer s l m (Err LargeLetter) l m
   unfolding trace_limits trace_refusal
-  large_letter_lem i = refuses 21 (rw (sym x.wide ∙ i))
+  large_letter_lem i = refuses LargeLetter (rw i)
 
-  module _ (i : large ≡ false) where
-    small : (large_letter lead || large_letter loop) ≡ false
-    small = sym x.wide ∙ i
-
-    pub many_letters : 64 < a + b → TraceAnswer s l m (Refused (refused 22)) l m
+  -- None is too large, and k are the lengths.
+  module _ (k : Lengths) (x : ((large_letter lead || large_letter loop) ≡ false) × (k.lead ≡ length lead) × (k.cycle ≡ length loop)) where
+    pub many_letters : 64 < k.lead + k.cycle → TraceAnswer s l m (Err ManyLetters) l m
     unfolding trace_limits trace_refusal
-    many_letters j = refuses 22 (rw (small, lt-leb (length lead + length loop) 64 (omega (arith, x.leads, x.loops))))
+    many_letters j = refuses ManyLetters (rw (x.0, lt-leb (length lead + length loop) 64 (omega (arith, x.1, x.2))))
 
-    module _ (j : a + b ≤ 64) where
+    module _ (j : k.lead + k.cycle ≤ 64) where
       few : leb (length lead + length loop) 64 ≡ true
-      few = le-leb (length lead + length loop) 64 (omega (arith, x.leads, x.loops))
+      few = le-leb (length lead + length loop) 64 (omega (arith, x.1, x.2))
 
-      pub no-room-lead : length l < a → TraceAnswer s l m (Refused (refused 23)) l m
+      pub no-room-lead : length l < k.lead → TraceAnswer s l m (Err ListRoom) l m
       unfolding trace_limits trace_refusal
-      no-room-lead k = refuses 23 (rw (small, few, lt-leb (length lead) (length l) (omega (arith, x.leads))))
+      no-room-lead i = refuses ListRoom (rw (x.0, few, lt-leb (length lead) (length l) (omega (arith, x.1))))
 
-      pub no-room-loop : length m < b → TraceAnswer s l m (Refused (refused 23)) l m
+      pub no-room-loop : length m < k.cycle → TraceAnswer s l m (Err ListRoom) l m
       unfolding trace_limits trace_refusal
-      no-room-loop k =
-          refuses 23 (rw (small, few, and-false (leb (length lead) (length l)) (leb (length loop) (length m)) (lt-leb (length loop) (length m) (omega (arith, x.loops)))))
+      no-room-loop i =
+          refuses ListRoom (rw (x.0, few, and-false (leb (length lead) (length l)) (leb (length loop) (length m)) (lt-leb (length loop) (length m) (omega (arith, x.2)))))
 
-      module _ (k : a ≤ length l) (n : b ≤ length m) where
+      module _ (u : k.lead ≤ length l) (v : k.cycle ≤ length m) where
         room : trace_refusal (length l) (length m) t ≡ none
         unfolding trace_limits trace_refusal
-        room = rw (small, few, le-leb (length lead) (length l) (omega (arith, x.leads)), le-leb (length loop) (length m) (omega (arith, x.loops)))
+        room = rw (x.0, few, le-leb (length lead) (length l) (omega (arith, x.1)), le-leb (length loop) (length m) (omega (arith, x.2)))
 
-        pub letters-read : (l' m' : List ℕ) (r : Lists) → ListsRead whole_line s 0 l m l' m' r → TraceAnswer s l m (Letters a b) l' m'
+        pub letters-read : (l' m' : List ℕ) (r : Result (Option Lengths) Fault) → ListsRead whole_line s 0 l m l' m' r → TraceAnswer s l m (Ok k) l' m'
         letters-read l' m' r y =
             let (p, q) = go r y in (
               t,
               record { short = h; is = e; within = room },
-              x.leads,
-              x.loops,
-              p ∙ front-sets lead l (omega (arith, x.leads)),
-              q ∙ front-sets loop m (omega (arith, x.loops)),
+              x.1,
+              x.2,
+              p ∙ front-sets lead l (omega (arith, x.1)),
+              q ∙ front-sets loop m (omega (arith, x.2)),
             )
           where
-            go : (r : Lists) → ListsRead whole_line s 0 l m l' m' r → (l' ≡ sets l 0 lead) × (m' ≡ sets m 0 loop)
-            go (FaultAt p) z = absurd (z.none s (agree_self (suc p) s) (lead, loop, e))
-            go (Found p q w) (lead', loop', f, z) =
-                let (u, v) = trace_injective lead loop lead' loop' (sym e ∙ f) in
-                let (y, t) = z.written (z.wide ∙ ap (λ (i : List ℕ). large_letter i || large_letter loop') (sym u) ∙ ap (λ (i : List ℕ). large_letter lead || large_letter i) (sym v) ∙ small) in
-                (y ∙ ap (sets l 0) (sym u), t ∙ ap (sets m 0) (sym v))
+            same : (lead' loop' : List ℕ) → s ≡ trace_line lead' loop' → (lead ≡ lead') × (loop ≡ loop')
+            same lead' loop' f = trace_injective lead loop lead' loop' (sym e ∙ f)
+
+            small : (lead' loop' : List ℕ) → (lead ≡ lead') × (loop ≡ loop') → (large_letter lead' || large_letter loop') ≡ false
+            small lead' loop' w = ap (λ (i : List ℕ). large_letter i || large_letter loop') (sym w.0) ∙ ap (λ (i : List ℕ). large_letter lead || large_letter i) (sym w.1) ∙ x.0
+
+            go : (r : Result (Option Lengths) Fault) → ListsRead whole_line s 0 l m l' m' r → (l' ≡ sets l 0 lead) × (m' ≡ sets m 0 loop)
+            go (Err f) z = absurd (z.none s (agree_self (suc f.0) s) (lead, loop, e))
+            go (Ok None) (lead', loop', f, z) = let w = small lead' loop' (same lead' loop' f) in cc
+            go (Ok (Some k')) (lead', loop', f, z) =
+                let w = same lead' loop' f in
+                (z.3 ∙ ap (sets l 0) (sym w.0), z.4 ∙ ap (sets m 0) (sym w.1))
+
+pub large_refused : {s : List ℕ} (l m c d c' d' : List ℕ) {x : Refusal} → length s ≤ most_bytes → (r : Option Lengths)
+    → ListsRead whole_line s 0 c d c' d' (Ok r) → ok_or r LargeLetter ≡ Err x → TraceAnswer s l m (Err x) l m
+large_refused {s} l m c d c' d' {x = x} h None (lead, loop, e, a) g =
+    let q : LargeLetter ≡ x = cc in subst (λ (y : Refusal). TraceAnswer s l m (Err y) l m) q (large_letter_lem l m lead loop h e a)
+large_refused l m c d c' d' h (Some k) a g = cc

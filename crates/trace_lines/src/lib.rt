@@ -1,260 +1,163 @@
 // Trace lines: `(finite N N)` or `(lasso (N N) (N N))`.
 #![tactic(auto)]
 
-ghost use Rattle.std.specs.Prelude.{◌≡◌, List, ℕ, ◌≤◌, length, set};
+ghost use Rattle.std.specs.Prelude.{◌≡◌, List, ℕ, ◌≤◌, length, unwrap_or};
 ghost use Rattle.text.specs.Limits.{most_bytes};
 ghost use Rattle.trace_lines.specs.TraceAnswer.{TraceAnswer};
 ghost use Rattle.text.specs.Inner.Places.{CursorIn};
-ghost use Rattle.trace_lines.specs.Inner.LettersReader.{LetterRead, LettersRead, further, listed, Any, Some, ListsRead, finite_rest, lasso_rest, whole_line};
+ghost use Rattle.trace_lines.specs.Inner.LettersReader.{LetterRead, LettersRead, further, listed, Any, NonEmpty, ListsRead, both_counted, finite_rest, lasso_rest, whole_line};
 
 use logic::{LARGEST_LETTER, Letter};
-use text::numbers::{Number, read_number};
+use text::put::put;
 use text::scan;
-use text::scan::{byte, either, match_word};
+use text::scan::{Cursor, Fault};
 use trace::{MOST_LETTERS, Refusal};
 
 // The largest number that is a letter.
 const LARGEST: u64 = LARGEST_LETTER as u64;
 
-// A letter at a place, nothing past the end.
-fn put_letter(out: &mut [Letter], at: usize, v: Letter)
-    ensures { out.new ≡ set out.old at v }
-{
-    if at < out.len() {
-        out[at] = v;
-    }
+// How many letters the two lists of a trace have.
+#[derive(Clone, Copy, Debug, PartialEq, Eq)]
+pub struct Lengths {
+    pub lead: usize,
+    pub cycle: usize,
 }
 
-// Letters that were read: where they end, the count of letters then, and whether one is too large. Or where none can follow.
-#[derive(Clone, Copy)]
-enum Letters {
-    Found {
-        next: usize,
-        count: usize,
-        large: bool,
-    },
-    FaultAt(usize),
-}
-
-// A letter, stored as letter n.
-fn read_letter(s: &[u8], at: usize, out: &mut [Letter], n: usize) -> Letters
-    requires { CursorIn s.now at n }
-    ensures { LetterRead s.now at n out.old out.new result }
+// One letter more, put behind those that were read. Their count is none once one is too large. The list and the count stay two parameters: a struct that held the lent
+// list would need a clause in each contract that it still is that list.
+fn read_letter(
+    cursor: &mut Cursor,
+    out: &mut [Letter],
+    count: Option<usize>,
+) -> Result<Option<usize>, Fault>
+    requires { CursorIn cursor.old.line.now cursor.old.at (unwrap_or count 0) }
+    ensures line { cursor.new.line.now ≡ cursor.old.line.now }
+    ensures read { LetterRead cursor.old.line.now cursor.old.at cursor.new.at count out.old out.new result }
 {
-    match read_number(s, at, LARGEST) {
-        Number::FaultAt(p) => Letters::FaultAt(p),
-        Number::Large(next) => Letters::Found {
-            next,
-            count: n + 1,
-            large: true,
-        },
-        Number::Small { value, next } => {
-            put_letter(out, n, value as u32);
-            Letters::Found {
-                next,
-                count: n + 1,
-                large: false,
-            }
-        }
-    }
+    let letter = cursor.number(LARGEST)?;
+    let (Some(n), Some(letter)) = (count, letter) else {
+        return Ok(None);
+    };
+    put(out, n, letter as Letter);
+    Ok(Some(n + 1))
 }
 
 // Further letters up to the closing bracket, a space before each.
-fn read_further(s: &[u8], at: usize, out: &mut [Letter], n: usize) -> Letters
-    requires { CursorIn s.now at n }
-    ensures { LettersRead further Any s.now at n out.old out.new result }
+fn read_further(
+    cursor: &mut Cursor,
+    out: &mut [Letter],
+    count: Option<usize>,
+) -> Result<Option<usize>, Fault>
+    requires { CursorIn cursor.old.line.now cursor.old.at (unwrap_or count 0) }
+    ensures line { cursor.new.line.now ≡ cursor.old.line.now }
+    ensures read { LettersRead further Any cursor.old.line.now cursor.old.at cursor.new.at count out.old out.new result }
 {
-    let mut i = at;
-    let mut count = n;
-    let mut large = false;
-    while byte(s, i) == 32 {
-        match read_letter(s, i + 1, out, count) {
-            Letters::FaultAt(p) => {
-                return Letters::FaultAt(p);
-            }
-            Letters::Found {
-                next,
-                count: more,
-                large: wide,
-            } => {
-                i = next;
-                count = more;
-                large = either(large, wide);
-            }
-        }
+    let mut count = count;
+    while cursor.accept(b' ') {
+        count = read_letter(cursor, out, count)?;
     }
-    if byte(s, i) != 41 {
-        return Letters::FaultAt(i);
-    }
-    Letters::Found {
-        next: i + 1,
-        count,
-        large,
-    }
+    cursor.expect(b")")?;
+    Ok(count)
 }
 
 // The letters of a list after its opening bracket, at least one.
-fn read_some(s: &[u8], at: usize, out: &mut [Letter]) -> Letters
-    requires { CursorIn s.now at 0 }
-    ensures { LettersRead listed Some s.now at 0 out.old out.new result }
+fn read_some(cursor: &mut Cursor, out: &mut [Letter]) -> Result<Option<usize>, Fault>
+    requires { CursorIn cursor.old.line.now cursor.old.at 0 }
+    ensures line { cursor.new.line.now ≡ cursor.old.line.now }
+    ensures read { LettersRead listed NonEmpty cursor.old.line.now cursor.old.at cursor.new.at (Some 0) out.old out.new result }
 {
-    match read_letter(s, at, out, 0) {
-        Letters::FaultAt(p) => Letters::FaultAt(p),
-        Letters::Found { next, count, large } => match read_further(s, next, out, count) {
-            Letters::FaultAt(p) => Letters::FaultAt(p),
-            Letters::Found {
-                next: end,
-                count: all,
-                large: wide,
-            } => Letters::Found {
-                next: end,
-                count: all,
-                large: either(large, wide),
-            },
-        },
-    }
+    let first = read_letter(cursor, out, Some(0))?;
+    read_further(cursor, out, first)
 }
 
 // The same, perhaps none.
-fn read_list(s: &[u8], at: usize, out: &mut [Letter]) -> Letters
-    requires { CursorIn s.now at 0 }
-    ensures { LettersRead listed Any s.now at 0 out.old out.new result }
+fn read_list(cursor: &mut Cursor, out: &mut [Letter]) -> Result<Option<usize>, Fault>
+    requires { CursorIn cursor.old.line.now cursor.old.at 0 }
+    ensures line { cursor.new.line.now ≡ cursor.old.line.now }
+    ensures read { LettersRead listed Any cursor.old.line.now cursor.old.at cursor.new.at (Some 0) out.old out.new result }
 {
-    if byte(s, at) == 41 {
-        return Letters::Found {
-            next: at + 1,
-            count: 0,
-            large: false,
-        };
+    if cursor.accept(b')') {
+        return Ok(Some(0));
     }
-    read_some(s, at, out)
+    read_some(cursor, out)
 }
 
-// How many letters the two lists have, and whether one is too large. Or where no line can follow.
-#[derive(Clone, Copy)]
-enum Lists {
-    Found {
-        lead: usize,
-        cycle: usize,
-        large: bool,
-    },
-    FaultAt(usize),
+// The lengths of both lists, or none where a letter of either is too large.
+fn both(lead: Option<usize>, cycle: Option<usize>) -> Option<Lengths>
+    ensures { result ≡ both_counted lead cycle }
+{
+    Some(Lengths {
+        lead: lead?,
+        cycle: cycle?,
+    })
 }
 
 // After `(finite`.
-fn read_finite(s: &[u8], at: usize, lead: &mut [Letter]) -> Lists
-    requires { CursorIn s.now at 0 }
-    ensures { (m : List ℕ) → ListsRead finite_rest s.now at lead.old m lead.new m result }
+fn read_finite(cursor: &mut Cursor, lead: &mut [Letter]) -> Result<Option<Lengths>, Fault>
+    requires { CursorIn cursor.old.line.now cursor.old.at 0 }
+    ensures { (m : List ℕ) → ListsRead finite_rest cursor.old.line.now cursor.old.at lead.old m lead.new m result }
 {
-    match read_further(s, at, lead, 0) {
-        Letters::FaultAt(p) => Lists::FaultAt(p),
-        Letters::Found { next, count, large } => {
-            if next != s.len() {
-                return Lists::FaultAt(next);
-            }
-            Lists::Found {
-                lead: count,
-                cycle: 0,
-                large,
-            }
-        }
-    }
+    let count = read_further(cursor, lead, Some(0))?;
+    cursor.end()?;
+    Ok(both(count, Some(0)))
 }
 
 // After `(lasso (`.
-fn read_lasso(s: &[u8], at: usize, lead: &mut [Letter], cycle: &mut [Letter]) -> Lists
-    requires { CursorIn s.now at 0 }
-    ensures { ListsRead lasso_rest s.now at lead.old cycle.old lead.new cycle.new result }
+fn read_lasso(
+    cursor: &mut Cursor,
+    lead: &mut [Letter],
+    cycle: &mut [Letter],
+) -> Result<Option<Lengths>, Fault>
+    requires { CursorIn cursor.old.line.now cursor.old.at 0 }
+    ensures { ListsRead lasso_rest cursor.old.line.now cursor.old.at lead.old cycle.old lead.new cycle.new result }
 {
-    match read_list(s, at, lead) {
-        Letters::FaultAt(p) => Lists::FaultAt(p),
-        Letters::Found { next, count, large } => {
-            let p = match_word(s, next, b" (");
-            if p != next + 2 {
-                return Lists::FaultAt(p);
-            }
-            match read_some(s, p, cycle) {
-                Letters::FaultAt(q) => Lists::FaultAt(q),
-                Letters::Found {
-                    next: end,
-                    count: all,
-                    large: wide,
-                } => {
-                    if byte(s, end) != 41 {
-                        return Lists::FaultAt(end);
-                    }
-                    if end + 1 != s.len() {
-                        return Lists::FaultAt(end + 1);
-                    }
-                    Lists::Found {
-                        lead: count,
-                        cycle: all,
-                        large: either(large, wide),
-                    }
-                }
-            }
-        }
-    }
+    let leads = read_list(cursor, lead)?;
+    cursor.expect(b" (")?;
+    let loops = read_some(cursor, cycle)?;
+    cursor.expect(b")")?;
+    cursor.end()?;
+    Ok(both(leads, loops))
 }
 
-// A trace line.
-fn read_lists(s: &[u8], lead: &mut [Letter], cycle: &mut [Letter]) -> Lists
-    requires { length s.now ≤ most_bytes }
-    ensures { ListsRead whole_line s.now 0 lead.old cycle.old lead.new cycle.new result }
+// A trace line; no lengths where a letter is too large.
+fn read_lists(
+    line: &[u8],
+    lead: &mut [Letter],
+    cycle: &mut [Letter],
+) -> Result<Option<Lengths>, Fault>
+    requires { length line.now ≤ most_bytes }
+    ensures { ListsRead whole_line line.now 0 lead.old cycle.old lead.new cycle.new result }
 {
-    let p = match_word(s, 0, b"(finite");
-    if p == 7 {
-        return read_finite(s, p, lead);
-    }
-    let q = match_word(s, 0, b"(lasso (");
-    if q == 8 {
-        return read_lasso(s, q, lead, cycle);
-    }
-    if p < q {
-        return Lists::FaultAt(q);
-    }
-    Lists::FaultAt(p)
-}
-
-#[derive(Clone, Copy)]
-pub enum TraceLine {
-    Letters { lead: usize, cycle: usize },
-    Refused(Refusal),
+    let mut cursor = Cursor { line, at: 0 };
+    let no_finite = match cursor.expect(b"(finite") {
+        Ok(()) => return read_finite(&mut cursor, lead),
+        Err(fault) => fault,
+    };
+    let no_lasso = match cursor.expect(b"(lasso (") {
+        Ok(()) => return read_lasso(&mut cursor, lead, cycle),
+        Err(fault) => fault,
+    };
+    Err(no_finite.further(no_lasso))
 }
 
 // A trace line's letters into the two lent lists. The line is read twice: first with no room, and again where nothing is to be refused.
-pub fn read_trace(line: &[u8], lead: &mut [Letter], cycle: &mut [Letter]) -> TraceLine
+pub fn read_trace(
+    line: &[u8],
+    lead: &mut [Letter],
+    cycle: &mut [Letter],
+) -> Result<Lengths, Refusal>
     ensures { TraceAnswer line.now lead.old cycle.old result lead.new cycle.new }
 {
     if scan::MOST_BYTES < line.len() {
-        return TraceLine::Refused(Refusal(17));
+        return Err(Refusal::LongLine);
     }
-    let mut none = [0u32; 1];
-    let mut nil = [0u32; 1];
-    match read_lists(line, &mut none, &mut nil) {
-        Lists::FaultAt(p) => TraceLine::Refused(Refusal(18)),
-        Lists::Found {
-            lead: a,
-            cycle: b,
-            large,
-        } => {
-            if large {
-                return TraceLine::Refused(Refusal(21));
-            }
-            if MOST_LETTERS < a {
-                return TraceLine::Refused(Refusal(22));
-            }
-            if MOST_LETTERS - a < b {
-                return TraceLine::Refused(Refusal(22));
-            }
-            if lead.len() < a {
-                return TraceLine::Refused(Refusal(23));
-            }
-            if cycle.len() < b {
-                return TraceLine::Refused(Refusal(23));
-            }
-            read_lists(line, lead, cycle);
-            TraceLine::Letters { lead: a, cycle: b }
-        }
+    let lengths = read_lists(line, &mut [], &mut [])?.ok_or(Refusal::LargeLetter)?;
+    if MOST_LETTERS < lengths.lead || MOST_LETTERS - lengths.lead < lengths.cycle {
+        return Err(Refusal::ManyLetters);
     }
+    if lead.len() < lengths.lead || cycle.len() < lengths.cycle {
+        return Err(Refusal::ListRoom);
+    }
+    let _ = read_lists(line, lead, cycle);
+    Ok(lengths)
 }

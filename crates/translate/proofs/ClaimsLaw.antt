@@ -8,14 +8,15 @@ use Rattle.psl.specs.Size.{weigh_b, weigh, node_count}
 use Rattle.translate.specs.Emitted.{added_by, emitted_size}
 use Rattle.translate.specs.Answer.{Delivers}
 use Rattle.translate.specs.Claims.{Claims}
-use Rattle.translate.specs.declared.Translation.{Translation}
+use Rattle.std.specs.Prelude.{Result}
+use Rattle.trace.specs.declared.refusal.Refusal.{Refusal}
 use Rattle.translate.proofs.WalkLaw.{length-emitted}
 use Rattle.translate.proofs.TranslatesLaw.{translates}
 use Rattle.translate.proofs.WorkedLaw.{worked}
 use Rattle.translate.proofs.EmittedLaw.{emitted-accepted}
 use Rattle.translate.proofs.DeliversLaw.{size-most, was_accepted}
 
-one_answer : (t l : List ℕ) (r r' : Translation) (m m' : List ℕ) → Delivers t l r m → Delivers t l r' m' → (r ≡ r') × (m ≡ m')
+one_answer : (t l : List ℕ) (r r' : Result ℕ Refusal) (m m' : List ℕ) → Delivers t l r m → Delivers t l r' m' → (r ≡ r') × (m ≡ m')
 one_answer t l r r' m m' d e = (d.answers ∙ sym e.answers, d.leaves ∙ sym e.leaves)
 
 -- The largest size for its nodes: next over next, the kind that adds most.

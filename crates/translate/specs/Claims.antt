@@ -1,5 +1,5 @@
 -- What is proved of the translator, in one list.
-use Rattle.std.specs.Prelude.{◌≡◌, List, ℕ, ◌*◌, ◌≤◌, length}
+use Rattle.std.specs.Prelude.{◌≡◌, List, ℕ, ◌*◌, ◌≤◌, length, Result, Ok}
 use Rattle.std.proofs.Math.Option.{none}
 use Rattle.logic.specs.Formula.{Formula}
 use Rattle.psl.specs.Size.{node_count}
@@ -10,14 +10,13 @@ use Rattle.translate.specs.Emitted.{emitted, emitted_size, most_emitted}
 use Rattle.translate.specs.Claim.{Translates}
 use Rattle.translate.specs.Worked.{Worked}
 use Rattle.translate.specs.Answer.{Delivers}
-use Rattle.translate.specs.declared.Translation.{Translation}
-use Rattle.translate.specs.declared.Translation.TheVariants.{Nodes}
+use Rattle.trace.specs.declared.refusal.Refusal.{Refusal}
 
 pub record Claims : Type 0 where
   -- For every table and every lent list there is one answer, and one list at exit.
-  pub one_answer : (t l : List ℕ) (r r' : Translation) (m m' : List ℕ) → Delivers t l r m → Delivers t l r' m' → (r ≡ r') × (m ≡ m')
+  pub one_answer : (t l : List ℕ) (r r' : Result ℕ Refusal) (m m' : List ℕ) → Delivers t l r m → Delivers t l r' m' → (r ≡ r') × (m ≡ m')
   -- A success of size s: the table is accepted, s is its S, and the list has room.
-  pub success : (t l : List ℕ) (s : ℕ) (m : List ℕ) → Delivers t l (Nodes s) m → (psl_refusal t ≡ none) × (s ≡ emitted_size (formula_of t)) × (3 * s ≤ length l)
+  pub success : (t l : List ℕ) (s : ℕ) (m : List ℕ) → Delivers t l (Ok s) m → (psl_refusal t ≡ none) × (s ≡ emitted_size (formula_of t)) × (3 * s ≤ length l)
   -- The emitted table has 3 × S numbers.
   pub sized : (f : Formula) → length (emitted f) ≡ 3 * emitted_size f
   -- S is at most 4,094 for an accepted table, and some formula of at most 1,024 nodes has that size.

@@ -1,2 +1,3 @@
 -- What the inner functions promise.
 pub mod Stored
+pub mod Joins

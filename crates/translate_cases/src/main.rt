@@ -1,17 +1,14 @@
 // The translator at its borders: one line a case, S or the refusal, and what stands in the lent list.
 #![tactic(auto)]
 
-ghost use Rattle.std.specs.Prelude.{◌≡◌, length};
-
 use report::{say, show};
 use std::io;
-use translate::Translation;
 
 // S, or 10,000 and the refusal.
 fn answered(t: &[u16], out: &mut [u16]) -> u64 {
     match translate::translate(t, out) {
-        Translation::Nodes(s) => s as u64,
-        Translation::Refused(x) => 10000 + (x.0 as u64),
+        Ok(s) => s as u64,
+        Err(x) => 10000 + u64::from(u8::from(x)),
     }
 }
 
@@ -19,42 +16,34 @@ fn answered(t: &[u16], out: &mut [u16]) -> u64 {
 fn worked(rt: &impl Print) -> io::Result<()> {
     let t = [1u16, 1, 0, 5, 0, 0, 8, 1, 0, 1, 0, 0, 10, 2, 3];
     let mut out = [9u16; 43];
-    say(rt, b"worked", answered(&t, &mut out))?;
+    say(rt, "worked", answered(&t, &mut out))?;
     show(rt, &out)?;
     let mut short = [9u16; 41];
-    say(rt, b"one short", answered(&t, &mut short))?;
+    say(rt, "one short", answered(&t, &mut short))?;
     show(rt, &short)
 }
 
 // A table that the check refuses leaves the list as it was.
 fn refused(rt: &impl Print) -> io::Result<()> {
     let mut out = [9u16; 6];
-    say(rt, b"one node, true", answered(&[0u16, 0, 0], &mut out))?;
+    say(rt, "one node, true", answered(&[0u16, 0, 0], &mut out))?;
     say(
         rt,
-        b"an operand twice",
+        "an operand twice",
         answered(&[0u16, 0, 0, 4, 0, 0, 7, 1, 1], &mut out),
     )?;
-    say(
-        rt,
-        b"signal 32",
-        answered(&[1u16, 32, 0, 4, 0, 0], &mut out),
-    )?;
-    say(rt, b"nothing", answered(&[], &mut out))?;
+    say(rt, "signal 32", answered(&[1u16, 32, 0, 4, 0, 0], &mut out))?;
+    say(rt, "nothing", answered(&[], &mut out))?;
     show(rt, &out)
 }
 
 // 1,022 nexts over (weak true).
-fn chain() -> [u16; 3072]
-    ensures { 3072 ≡ length result }
-{
+fn chain() -> [u16; 3072] {
     let mut t = [0u16; 3072];
     t[3] = 4;
-    let mut i: usize = 2;
-    while i < 1024 {
+    for i in 2..1024 {
         t[3 * i] = 8;
         t[3 * i + 1] = (i - 1) as u16;
-        i += 1;
     }
     t
 }
@@ -62,10 +51,10 @@ fn chain() -> [u16; 3072]
 fn largest(rt: &impl Print) -> io::Result<()> {
     let t = chain();
     let mut out = [0u16; 12282];
-    say(rt, b"largest", answered(&t, &mut out))?;
+    say(rt, "largest", answered(&t, &mut out))?;
     show(rt, &out[12270..])?;
     let mut short = [0u16; 12281];
-    say(rt, b"largest, one short", answered(&t, &mut short))
+    say(rt, "largest, one short", answered(&t, &mut short))
 }
 
 fn main(rt: HostRuntime) -> io::Result<()> {

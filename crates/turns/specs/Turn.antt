@@ -1,26 +1,19 @@
 -- What a turn does, and what a run does.
-use Rattle.std.specs.Prelude.{◌≡◌, true, false, List, [], ℕ, take, Option, IfSome}
+use Rattle.std.specs.Prelude.{◌≡◌, false, List, [], ℕ, Option, IfSome}
 use Rattle.std.specs.Io.KnownBytes.{Appends, Consumes, IsAtEnd}
 use Rattle.answers.specs.Whole.{Runs}
-use Rattle.state.specs.Inner.{Within}
-use Rattle.state.specs.declared.State.{State}
-use Rattle.run.specs.Inner.{Advanced}
+use Rattle.run.specs.declared.Run.{Run}
+use Rattle.run.specs.Inner.{goes_on, Advanced}
 
--- A turn took the block that was read, and handed its output over to be written; or reading or writing failed, and the run stops.
-pub record Turned (line psl ltl : List ℕ) (s r : State) (line' psl' ltl' out' : List ℕ) : Type 0 where
-  pub within : Within r line' psl' ltl' out'
-  pub block : List ℕ
-  pub stops : r.failed ≡ true → r.more ≡ false
-  pub takes : r.failed ≡ false → Advanced block line psl ltl s r line' psl' ltl' out'
-
--- A turn that did not fail: the block was the next bytes of the input, what it gathered was put behind the output, and the empty block of the run's
+-- A turn that did not fail: the block was the next bytes of the input, what it printed was put behind the output, and the empty block of the run's
 -- last turn was the input's end. This tells nothing of an input or an output whose bytes are not known.
-pub record Moved (input input' output output' : Option (List ℕ)) (line psl ltl : List ℕ) (s r : State) (line' psl' ltl' out' : List ℕ) : Type 0 where
+pub record Moved (input input' output output' : Option (List ℕ)) (s r : Run) : Type 0 where
   pub block : List ℕ
-  pub takes : Advanced block line psl ltl s r line' psl' ltl' out'
+  pub printed : List ℕ
+  pub takes : Advanced block s r printed
   pub reads : Consumes input input' block
-  pub writes : Appends output output' (take r.gathered out')
-  pub ends : block ≡ [] → r.more ≡ false → IsAtEnd input'
+  pub writes : Appends output output' printed
+  pub ends : block ≡ [] → goes_on r ≡ false → IsAtEnd input'
 
 -- A run that came to its end put behind the output what the run on the bytes of the input prints.
 abbrev pub Whole : Option (List ℕ) → Option (List ℕ) → Option (List ℕ) → Type 0

@@ -1,103 +1,80 @@
-// A run on standard input and output: each turn reads a block, has it taken, and writes what it printed.
+// A run on an input and an output: each turn reads a block, has it taken, and writes what it printed.
 #![tactic(auto)]
 
-ghost use Rattle.std.specs.Prelude.{◌≡◌, ◌≢◌, ◌⊎◌, true, false, length};
+ghost use Rattle.std.specs.Prelude.{◌≡◌, ◌≢◌, true, IsOk, IsErr, OnOk};
 ghost use Rattle.std.specs.IoError.{error_kind};
-ghost use Rattle.state.specs.Inner.{Within, ListsFit, stopped, idle};
-ghost use Rattle.turns.specs.Turn.{Turned, Moved, Whole};
+ghost use Rattle.run.specs.Inner.{goes_on};
+ghost use Rattle.turns.specs.Turn.{Moved, Whole};
 
-use run::advance;
-use state::{BLOCK, LAST_LINE, LINE_ROOM, LTL_ROOM, OUT_ROOM, PSL_ROOM, State, stop};
+use run::{BLOCK, NotTaken, Run};
+use std::fmt;
 use std::io::{Error, ErrorKind, Read, Write};
 
-// A read failed. One that was interrupted is tried again; any other is told and stops the run, so that half a line is never taken for one.
-fn stop_unless_interrupted(told: &impl Eprint, e: Error, s: State) -> State
-    ensures either { (result ≡ idle s) ⊎ (result ≡ stopped s) }
-    ensures again { error_kind e ≡ ErrorKind.Interrupted → result ≡ idle s }
-    ensures stops { error_kind e ≢ ErrorKind.Interrupted → result ≡ stopped s }
-{
-    if e.kind() == ErrorKind::Interrupted {
-        let mut r = s;
-        r.gathered = 0;
-        return r;
-    }
-    let _ = eprintln!(told; "psl2ltl: standard input: {e}");
-    stop(s)
+// Why a run stops before its input ends.
+#[derive(Drop)]
+pub enum Stop {
+    Input(Error),
+    Output(Error),
+    Block(NotTaken),
+    ManyTurns,
 }
 
-// One block: it is read, taken, and what it prints is written. A run of more lines than can be counted stops too.
-fn take_turn<R: Read, W: Write>(
-    input: &mut R,
-    output: &mut W,
-    told: &impl Eprint,
-    line: &mut [u8],
-    psl: &mut [u16],
-    ltl: &mut [u16],
-    out: &mut [u8],
-    s: State,
-) -> State
-    requires { Within s line.old psl.old ltl.old out.old × (s.more ≡ true) }
-    ensures turned { Turned line.old psl.old ltl.old s result line.new psl.new ltl.new out.new }
-    ensures moved { result.failed ≡ false → Moved (R.remaining input.old) (R.remaining input.new) (W.contents output.old) (W.contents output.new)
-        line.old psl.old ltl.old s result line.new psl.new ltl.new out.new }
-{
-    if LAST_LINE < s.number {
-        let _ = eprintln!(told; "psl2ltl: more lines than can be counted");
-        return stop(s);
+impl From<NotTaken> for Stop {
+    fn from(e: NotTaken) -> Stop {
+        Stop::Block(e)
     }
-    let mut block = [0u8; BLOCK];
-    let n = match input.read(&mut block) {
-        Ok(n) => n,
-        Err(e) => return stop_unless_interrupted(told, e, s),
-    };
-    let r = advance(&block[..n], line, psl, ltl, out, s);
-    let end = r.gathered;
-    match output.write_all(&out[..end]) {
-        Ok(()) => r,
-        Err(e) => {
-            let _ = eprintln!(told; "psl2ltl: standard output: {e}");
-            stop(r)
+}
+
+impl fmt::Display for Stop {
+    fn fmt<W: fmt::Write>(&self, f: &mut fmt::Formatter<W>) -> fmt::Result {
+        match self {
+            Stop::Input(e) => write!(f, "standard input: {e}"),
+            Stop::Output(e) => write!(f, "standard output: {e}"),
+            Stop::Block(e) => write!(f, "{e}"),
+            Stop::ManyTurns => write!(f, "more blocks than can be counted"),
         }
     }
 }
 
-// Turns to the input's end, or to a refused first line. Whether they came to it.
-fn turn_by_turn<R: Read, W: Write>(
-    input: &mut R,
-    output: &mut W,
-    told: &impl Eprint,
-    line: &mut [u8],
-    psl: &mut [u16],
-    ltl: &mut [u16],
-    out: &mut [u8],
-) -> bool
-    requires { ListsFit 0 (length line.old) (length psl.old) (length ltl.old) (length out.old) }
-    ensures { result ≡ true → Whole (R.remaining input.old) (W.contents output.old) (W.contents output.new) }
+// A read failed. One that was interrupted is tried again; any other stops the run, so that half a line is never taken for one.
+fn unless_interrupted(e: Error) -> Result<(), Stop>
+    ensures again { error_kind e ≡ ErrorKind.Interrupted → IsOk result }
+    ensures stops { error_kind e ≢ ErrorKind.Interrupted → IsErr result }
 {
-    let mut s = State {
-        number: 1,
-        filled: 0,
-        psl_nodes: 0,
-        ltl_nodes: 0,
-        gathered: 0,
-        more: true,
-        failed: false,
-    };
-    let mut turns = u64::MAX;
-    while turns > 0 {
-        s = take_turn(input, output, told, line, psl, ltl, out, s);
-        turns = if s.more { turns - 1 } else { 0 };
+    if e.kind() == ErrorKind::Interrupted {
+        return Ok(());
     }
-    if s.more { false } else { !s.failed }
+    Err(Stop::Input(e))
 }
 
-// A run from an input to an output; what fails is told. Whether it came to its end.
-pub fn take_turns<R: Read, W: Write>(input: &mut R, output: &mut W, told: &impl Eprint) -> bool
-    ensures { result ≡ true → Whole (R.remaining input.old) (W.contents output.old) (W.contents output.new) }
+// One block: it is read, taken, and what it prints is written.
+fn take_turn<R: Read, W: Write>(input: &mut R, output: &mut W, run: &mut Run) -> Result<(), Stop>
+    requires { goes_on run.old ≡ true }
+    ensures { OnOk result (Moved (R.remaining input.old) (R.remaining input.new) (W.contents output.old) (W.contents output.new) run.old run.new) }
 {
-    let mut line = [0u8; LINE_ROOM];
-    let mut psl = [0u16; PSL_ROOM];
-    let mut ltl = [0u16; LTL_ROOM];
-    let mut out = [0u8; OUT_ROOM];
-    turn_by_turn(input, output, told, &mut line, &mut psl, &mut ltl, &mut out)
+    let mut block = [0u8; BLOCK];
+    let n = match input.read(&mut block) {
+        Ok(n) => n,
+        Err(e) => return unless_interrupted(e),
+    };
+    run.advance(&block[..n])?;
+    let printed = run.gathered();
+    match output.write_all(printed) {
+        Ok(()) => Ok(()),
+        Err(e) => Err(Stop::Output(e)),
+    }
+}
+
+// A run from an input to an output, to the input's end or to a refused first line.
+pub fn take_turns<R: Read, W: Write>(input: &mut R, output: &mut W) -> Result<(), Stop>
+    ensures { OnOk result (Whole (R.remaining input.old) (W.contents output.old) (W.contents output.new)) }
+{
+    let mut run = Run::new();
+    for _ in 0..u64::MAX {
+        take_turn(input, output, &mut run)?;
+        if !run.goes_on() {
+            return Ok(());
+        }
+    }
+    Err(Stop::ManyTurns)
 }

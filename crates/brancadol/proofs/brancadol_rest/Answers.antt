@@ -10,5 +10,5 @@ use Rattle.brancadol.proofs.brancadol_rest.Goals as goal
 pub returns : goal.returns
 returns c = record {
   value = c.success_code.ensures ∙ ap (λ (l : List ℕ). success_code (length l)) c.rest_of-part.ensures.content;
-  out_after = c.copy.ensures ∙ ap (sets c.args.out.now 0) c.rest_of-part.ensures.content;
+  out_after = c.copy_letters.ensures ∙ ap (sets c.args.out.now 0) c.rest_of-part.ensures.content;
 }

@@ -1,40 +1,30 @@
 -- Each refusal from the reading with no room; then the same reading fills the lent list.
 use native.Mathlib.Omega.{arith}
-use Prim.Native.Nat.{◌≤◌}
-use lib.ListN.{length}
-use Rattle.text.specs.Limits.{most_bytes}
-use Rattle.formula_lines.proofs.LineLaw.{too_long, no-formula, many_nodes, large_signal_lem, no_room, table-read}
+use Rattle.std.proofs.lemmas.Result.{err_from_is_err_and}
+use Rattle.formula_lines.proofs.LineLaw.{no-formula, many_nodes, large_signal_lem, no_room, table-read}
 use Rattle.formula_lines.proofs.read_formula.Goals as goal
 
-pub returns-then-line-gt-MOST_BYTES : goal.returns-then-line-gt-MOST_BYTES
-returns-then-line-gt-MOST_BYTES c = too_long c.args.line.now c.args.out.now c.if-line-gt-MOST_BYTES.true
+pub returns-in_err-read : goal.returns-in_err-read
+returns-in_err-read c =
+    let p = err_from_is_err_and c.from_residual.result c.from_residual.ensures.1 in
+    rw (p.1, p.2) (no-formula c.args.line.now c.args.out.now (omega arith) c.in_err-read.ensures)
 
-pub returns-then-nodes-gt-MOST_NODES : goal.returns-then-nodes-gt-MOST_NODES
-returns-then-nodes-gt-MOST_NODES c =
-    let short : length c.args.line.now ≤ most_bytes = omega (arith, c.if-line-gt-MOST_BYTES.false) in
-    let (f, dry) = c.in-Found.ensures in
-    many_nodes c.args.out.now short dry c.if-nodes-gt-MOST_NODES.true
+pub returns-then-read-gt-MOST_NODES : goal.returns-then-read-gt-MOST_NODES
+returns-then-read-gt-MOST_NODES c =
+    let a = c.in_ok-read.ensures in
+    many_nodes c.args.out.now (omega arith) a.1 c.if-read-gt-MOST_NODES.true
 
-pub returns-then-large : goal.returns-then-large
-returns-then-large c =
-    let short : length c.args.line.now ≤ most_bytes = omega (arith, c.if-line-gt-MOST_BYTES.false) in
-    let (f, dry) = c.in-Found.ensures in
-    large_signal_lem c.args.out.now short dry (omega (arith, c.if-nodes-gt-MOST_NODES.false)) c.if-large.true
+pub returns-then-read : goal.returns-then-read
+returns-then-read c =
+    let a = c.in_ok-read.ensures in
+    large_signal_lem c.args.out.now (omega arith) a.1 (omega arith) c.if-read.true
 
-pub returns-then-out-nodes : goal.returns-then-out-nodes
-returns-then-out-nodes c =
-    let short : length c.args.line.now ≤ most_bytes = omega (arith, c.if-line-gt-MOST_BYTES.false) in
-    let (f, dry) = c.in-Found.ensures in
-    no_room c.args.out.now short dry (omega (arith, c.if-nodes-gt-MOST_NODES.false)) c.if-large.false (omega (arith, c.if-out-nodes.true))
+pub returns-then-out-read : goal.returns-then-out-read
+returns-then-out-read c =
+    let a = c.in_ok-read.ensures in
+    no_room c.args.out.now (omega arith) a.1 (omega arith) c.if-read.false (omega arith)
 
-pub returns-in-FaultAt : goal.returns-in-FaultAt
-returns-in-FaultAt c =
-    let short : length c.args.line.now ≤ most_bytes = omega (arith, c.if-line-gt-MOST_BYTES.false) in
-    no-formula c.args.line.now c.args.out.now short c.in-FaultAt.ensures
-
-pub returns-else-out-nodes : goal.returns-else-out-nodes
-returns-else-out-nodes c =
-    let short : length c.args.line.now ≤ most_bytes = omega (arith, c.if-line-gt-MOST_BYTES.false) in
-    let (f, dry) = c.in-Found.ensures in
-    table-read c.args.out.now short dry (omega (arith, c.if-nodes-gt-MOST_NODES.false)) c.if-large.false (omega (arith, c.if-out-nodes.false))
-    c.read_whole-in-Found.new.out c.read_whole-in-Found.result c.read_whole-in-Found.ensures
+pub returns : goal.returns
+returns c =
+    let a = c.in_ok-read.ensures in
+    table-read c.args.out.now (omega arith) a.1 (omega arith) c.if-read.false (omega arith) c.read_whole-2.new.out c.read_whole-2.result c.read_whole-2.ensures

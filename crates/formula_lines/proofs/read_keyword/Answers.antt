@@ -1,16 +1,22 @@
--- Booleans are sort 0, formulas every other.
-use mathlib.Core.Path.{sym, subst}
+-- Each turn tries one keyword more.
+use mathlib.Core.Path.{refl, subst, ◌∙◌}
 use mathlib.Core.List.{List}
 use Prim.Native.Nat.{ℕ}
-use Rattle.formula_lines.specs.Inner.Form.{kinds}
-use Rattle.formula_lines.specs.Inner.Reader.{KeywordRead}
-use Rattle.formula_lines.proofs.KeywordLaw.{formula_words}
+use Rattle.formula_lines.specs.Inner.Reader.{NoneOf}
+use Rattle.formula_lines.proofs.KeywordLaw.{none_yet, none_more, numbers_more}
 use Rattle.formula_lines.proofs.read_keyword.Goals as goal
 
-pub returns-then-sort-eq0 : goal.returns-then-sort-eq0
-returns-then-sort-eq0 c = let x = c.args in
-    subst (λ (o : ℕ). KeywordRead (kinds o) x.s.now x.at c.boolean_keyword.result) (sym c.if-sort-eq0.true) c.boolean_keyword.ensures
+pub loop-kind-init : goal.loop-kind-init
+loop-kind-init c = record { line = refl; place = refl; tried = none_yet _ _ c.requires }
 
-pub returns : goal.returns
-returns c = let x = c.args in
-    subst (λ (ks : List ℕ). KeywordRead ks x.s.now x.at c.formula_keyword.result) (sym (formula_words x.sort c.if-sort-eq0.false)) c.formula_keyword.ensures
+pub loop-kind-preserved : goal.loop-kind-preserved
+loop-kind-preserved c =
+    let inv = c.loop-kind.invariant in
+    let z = rw (inv.place, inv.line, c.keyword.ensures) at c.in-Err.ensures.read in
+    record {
+      line = c.in-Err.ensures.line ∙ inv.line;
+      place = c.in-Err.ensures.read.0 ∙ inv.place;
+      tried = subst (λ (ks : List ℕ). NoneOf ks c.args.cursor.now.line.now c.args.cursor.now.at c.further-fault.result.0)
+          (numbers_more c.kinds-kind-items.result.now c.loop-kind.kind-index _ c.loop-kind-test.true)
+          (none_more _ _ inv.tried (z.1 c.requires) c.further-fault.ensures);
+    }

@@ -1,17 +1,14 @@
 -- A number; above the limit it is only said to be large.
-use native.Mathlib.Omega.{arith}
-use Rattle.formula_lines.proofs.ReaderLaw.{signal-no, signal_small, signal_large}
+use Rattle.std.proofs.lemmas.Result.{err_from_is_err_and}
+use Rattle.formula_lines.proofs.ReaderLaw.{signal-no, signal_read}
 use Rattle.formula_lines.proofs.read_signal.Goals as goal
 
-pub returns-in-FaultAt : goal.returns-in-FaultAt
-returns-in-FaultAt c = λ l. signal-no (c.in-FaultAt.ensures.0 c.requires.within)
+pub returns-in_err-signal-clause-read : goal.returns-in_err-signal-clause-read
+returns-in_err-signal-clause-read c =
+    let p = err_from_is_err_and c.from_residual.result c.from_residual.ensures.1 in
+    λ l. rw (p.1, p.2) (signal-no (c.in_err-signal.ensures.read.1 c.requires.within))
 
-pub returns-in-Large : goal.returns-in-Large
-returns-in-Large c = let x = c.args in
-    let (v, h, a) = c.in-Large.ensures in
-    λ l. signal_large x.s.now x.at x.n c.in-Large.next v l c.requires.few a h
-
-pub returns-in-Small : goal.returns-in-Small
-returns-in-Small c = let x = c.args in
-    let (h, a) = c.in-Small.ensures in
-    λ l. signal_small x.s.now x.at x.n c.in-Small.next c.in-Small.value l c.requires.few a (omega (arith, h))
+pub returns-clause-read : goal.returns-clause-read
+returns-clause-read c =
+    let a = c.in_ok-signal.ensures.read in
+    λ l. rw c.unwrap_or.ensures (signal_read _ _ _ _ _ l c.requires.few a.2 c.in_ok-signal.signal c.is_none.result c.is_none.ensures a.1)

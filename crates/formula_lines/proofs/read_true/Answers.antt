@@ -1,26 +1,22 @@
 -- `true` is due where a Boolean is; a form that opens with a bracket does not stand here.
-use mathlib.Core.Path.{sym, subst}
-use Prim.Native.Nat.{ℕ}
-use Rattle.text.specs.Inner.Places.{Stops}
+use mathlib.Core.Path.{ap}
+use Rattle.std.proofs.lemmas.Result.{err_from_is_err_and}
 use Rattle.formula_lines.specs.Inner.Form.{truth}
-use Rattle.formula_lines.specs.Inner.Reader.{FormOf}
+use Rattle.formula_lines.specs.Inner.Reader.{sort_number}
+use Rattle.formula_lines.proofs.KeywordLaw.{sort_formula}
 use Rattle.formula_lines.proofs.ReaderLaw.{true-not_due, true-part, true-stands}
 use Rattle.formula_lines.proofs.read_true.Goals as goal
 
-pub returns-then-sort-ne0 : goal.returns-then-sort-ne0
-returns-then-sort-ne0 c = let x = c.args in
-    let s = x.s.now in
-    let at = x.at in
-    true-not_due s at c.requires.1 x.sort c.requires.0.within c.if-sort-ne0.true
+pub returns-in_default-clause-read : goal.returns-in_default-clause-read
+returns-in_default-clause-read c =
+    true-not_due c.requires.no_bracket (sort_number c.args.sort) (sort_formula c.args.sort c.in_default.not-Boolean)
 
-pub returns-then-p-at : goal.returns-then-p-at
-returns-then-p-at c = let x = c.args in
-    let s = x.s.now in
-    let at = x.at in
-    subst (λ (so : ℕ). Stops (FormOf so) s at c.match_word-p.result) (sym c.if-sort-ne0.false) (true-part s at c.requires.1 (c.match_word-p.ensures.part c.requires.0.within c.if-p-at.true))
+pub returns-in_err-expect-clause-read : goal.returns-in_err-expect-clause-read
+returns-in_err-expect-clause-read c =
+    let p = err_from_is_err_and c.from_residual.result c.from_residual.ensures.1 in
+    rw (p.1, p.2, c.in-Boolean.is) (true-part c.requires.no_bracket (c.in_err-expect.ensures.read.1 c.requires.place.within))
 
-pub returns : goal.returns
-returns c = let x = c.args in
-    let s = x.s.now in
-    let at = x.at in
-    (truth, c.if-sort-ne0.false, true-stands s at x.n c.match_word-p.result x.out.now c.put_node.new.out c.requires.0.few (c.match_word-p.ensures.whole c.requires.0.within c.if-p-at.false) c.if-p-at.false c.put_node.ensures)
+pub returns-clause-read : goal.returns-clause-read
+returns-clause-read c =
+    let w = c.in_ok-expect.ensures.read in
+    (truth, ap sort_number c.in-Boolean.is, true-stands _ _ _ _ _ _ c.requires.place.few (w.stands c.requires.place.within) c.put_node.ensures)

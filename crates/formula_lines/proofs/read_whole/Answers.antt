@@ -1,37 +1,42 @@
 -- `(psl `, a formula, the closing bracket, and the end.
 use native.Mathlib.Omega.{arith}
-use mathlib.Core.Path.{sym, subst, ◌∙◌, ◌≡◌}
-use mathlib.Core.List.{List}
-use Prim.Native.Nat.{ℕ}
-use Rattle.text.specs.Text.{text}
-use Rattle.text.specs.Inner.Places.{Stands}
-use Rattle.text.specs.Inner.Scan.{WordRead}
+use Rattle.std.proofs.lemmas.Result.{err_from_is_err_and}
 use Rattle.formula_lines.proofs.LineLaw.{not-psl, no-form, not-closed, tail_left, line_read}
 use Rattle.formula_lines.proofs.read_whole.Goals as goal
 
-opened : (s : List ℕ) (p : ℕ) → WordRead (text "(psl ") s 0 p → p ≡ 5 → Stands (text "(psl ") s 0 5
-opened s p w e = subst (Stands (text "(psl ") s 0) e (w.whole (omega arith) e)
+pub returns-in_err-expect : goal.returns-in_err-expect
+returns-in_err-expect c =
+    let p = err_from_is_err_and c.from_residual.result c.from_residual.ensures.1 in
+    rw (p.1, p.2) (not-psl (c.in_err-expect.ensures.read.1 (omega arith)))
 
-pub returns-then-p-ne5 : goal.returns-then-p-ne5
-returns-then-p-ne5 c = not-psl (c.match_word-p.ensures.part (omega arith) c.if-p-ne5.true)
+pub returns-in_err-read : goal.returns-in_err-read
+returns-in_err-read c =
+    let o = c.in_ok-expect.ensures.read in
+    let a = rw c.in_ok-expect.ensures.line at c.in_err-read.ensures.read in
+    let p = err_from_is_err_and c.from_residual-in_err-read.result c.from_residual-in_err-read.ensures.1 in
+    rw (p.1, p.2) (no-form (o.stands (omega arith)) a)
 
-pub returns-then-byte-ne41 : goal.returns-then-byte-ne41
-returns-then-byte-ne41 c =
-    let (f, sf, a) = c.in-Found.ensures in
-    not-closed (opened c.args.s.now c.match_word-p.result c.match_word-p.ensures c.if-p-ne5.false) sf a (λ e. c.if-byte-ne41.true (c.byte.ensures.0 ∙ e))
+pub returns-in_err-expect-2 : goal.returns-in_err-expect-2
+returns-in_err-expect-2 c =
+    let o = c.in_ok-expect.ensures.read in
+    let a = rw c.in_ok-expect.ensures.line at c.in_ok-read.ensures.read in
+    let z = rw (c.in_ok-read.ensures.line, c.in_ok-expect.ensures.line) at c.in_err-expect-2.ensures.read in
+    let p = err_from_is_err_and c.from_residual-in_err-expect-2.result c.from_residual-in_err-expect-2.ensures.1 in
+    rw (p.1, p.2) (not-closed (o.stands (omega arith)) a.1 a.2 (z.1 a.2.stands.within))
 
-pub returns-then-next-s : goal.returns-then-next-s
-returns-then-next-s c =
-    let (f, sf, a) = c.in-Found.ensures in
-    tail_left (opened c.args.s.now c.match_word-p.result c.match_word-p.ensures c.if-p-ne5.false) sf a (sym c.byte.ensures.0 ∙ c.if-byte-ne41.false)
-    (c.byte.ensures.1 (omega (arith, c.if-byte-ne41.false))) c.if-next-s.true
+pub returns-in_err-end : goal.returns-in_err-end
+returns-in_err-end c =
+    let o = c.in_ok-expect.ensures.read in
+    let a = rw c.in_ok-expect.ensures.line at c.in_ok-read.ensures.read in
+    let e = rw (c.in_ok-read.ensures.line, c.in_ok-expect.ensures.line) at c.in_ok-expect-2.ensures.read in
+    let z = rw (c.in_ok-expect-2.ensures.line, c.in_ok-read.ensures.line, c.in_ok-expect.ensures.line) at c.in_err-end.ensures in
+    let p = err_from_is_err_and c.from_residual-in_err-end.result c.from_residual-in_err-end.ensures.1 in
+    rw (p.1, p.2, z.1) (tail_left (o.stands (omega arith)) a.1 a.2 (e.stands a.2.stands.within) z.0)
 
-pub returns-in-FaultAt : goal.returns-in-FaultAt
-returns-in-FaultAt c =
-    no-form (opened c.args.s.now c.match_word-p.result c.match_word-p.ensures c.if-p-ne5.false) c.in-FaultAt.ensures
-
-pub returns-else-next-s : goal.returns-else-next-s
-returns-else-next-s c =
-    let (f, sf, a) = c.in-Found.ensures in
-    line_read (opened c.args.s.now c.match_word-p.result c.match_word-p.ensures c.if-p-ne5.false) sf a (sym c.byte.ensures.0 ∙ c.if-byte-ne41.false)
-    (c.byte.ensures.1 (omega (arith, c.if-byte-ne41.false))) c.if-next-s.false
+pub returns : goal.returns
+returns c =
+    let o = c.in_ok-expect.ensures.read in
+    let a = rw c.in_ok-expect.ensures.line at c.in_ok-read.ensures.read in
+    let e = rw (c.in_ok-read.ensures.line, c.in_ok-expect.ensures.line) at c.in_ok-expect-2.ensures.read in
+    let z = rw (c.in_ok-expect-2.ensures.line, c.in_ok-read.ensures.line, c.in_ok-expect.ensures.line) at c.in_ok-end.ensures in
+    line_read (o.stands (omega arith)) a.1 a.2 (e.stands a.2.stands.within) z

@@ -2,7 +2,6 @@
 use Rattle.std.specs.Prelude.{◌≡◌, Bool, false, ◌||◌, List, [], ◌∷◌, ◌++◌, ℕ, zero, suc, get_or, T, leb}
 use Rattle.logic.specs.Letter.{signals}
 use Rattle.table.specs.Node.{Node, node, ◌▸◌, last}
-use Rattle.formula_lines.specs.declared.Arity.{Arity}
 use Rattle.text.specs.Text.{text}
 use Rattle.text.specs.Inner.Words.{elem}
 use Rattle.text.specs.Spelling.{digits}
@@ -34,8 +33,13 @@ keyword k =
     ) k []
 
 -- How many forms each kind takes, and the sorts of the left and of the right one, 0 for a Boolean and 1 for a formula.
+pub record Arity : Type 0 where
+  pub forms : ℕ
+  pub left : ℕ
+  pub right : ℕ
+
 abbrev pub arity_is : ℕ → ℕ → ℕ → Arity
-arity_is a l r = record { 0 = a; 1 = l; 2 = r }
+arity_is a l r = record { forms = a; left = l; right = r }
 
 abbrev pub arities : List Arity
 arities =
@@ -56,13 +60,13 @@ unfoldable pub shape : ℕ → Arity
 shape k = get_or arities k (arity_is 0 0 0)
 
 abbrev pub arity : ℕ → ℕ
-arity k = (shape k).0
+arity k = (shape k).forms
 
 abbrev pub left_sort : ℕ → ℕ
-left_sort k = (shape k).1
+left_sort k = (shape k).left
 
 abbrev pub right_sort : ℕ → ℕ
-right_sort k = (shape k).2
+right_sort k = (shape k).right
 
 -- The kinds of a sort that stand in brackets.
 abbrev pub kinds : ℕ → List ℕ

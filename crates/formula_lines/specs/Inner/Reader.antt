@@ -1,5 +1,5 @@
 -- What the reader of forms promises.
-use Rattle.std.specs.Prelude.{◌≡◌, ◌⊎◌, Bool, false, List, [], ◌∷◌, ◌++◌, ℕ, ◌+◌, ◌*◌, ◌≤◌, ◌<◌, length, drop, T}
+use Rattle.std.specs.Prelude.{◌≡◌, ◌⊎◌, Bool, false, Result, Ok, Err, List, [], ◌∷◌, ◌++◌, ℕ, ◌+◌, ◌*◌, ◌≤◌, ◌<◌, length, drop, T}
 use Rattle.std.proofs.lemmas.List.Edits.{sets}
 use Rattle.table.specs.Node.{Node, numbers_of}
 use Rattle.logic.specs.Formula.{Formula}
@@ -8,9 +8,15 @@ use Rattle.formula_lines.specs.Spelling.{formula_line}
 use Rattle.psl.specs.Closing.{closing_nodes, large_signal}
 use Rattle.text.specs.Inner.Places.{Language, Begins, Stands, Halts, Stops, StopsLine}
 use Rattle.text.specs.Inner.Number.{NoDigit}
-use Rattle.formula_lines.specs.Inner.Form.{Form, truth, signal, one, two, keyword, kinds, Sorted, OfKind, bytes, inner, closed, wide}
+use Rattle.formula_lines.specs.Inner.Form.{Form, truth, signal, one, two, keyword, arity, left_sort, right_sort, kinds, Sorted, OfKind, bytes, inner, closed, wide}
 use Rattle.text.specs.Inner.Words.{elem}
-use Rattle.formula_lines.specs.declared.Keyword.{Keyword}
+use Rattle.psl.specs.declared.kind.Kind.{Kind}
+use Rattle.psl.specs.declared.kind.Kind.TheVariants.{Var, Bnot, Band, Weak, Strong, Not, And, Next, Until, Abort}
+use Rattle.psl.specs.Kind.{number}
+use Rattle.text.specs.declared.scan.Fault.{Fault}
+use Rattle.formula_lines.specs.declared.Sort.{Sort}
+use Rattle.formula_lines.specs.declared.Parts.{Parts}
+use Rattle.formula_lines.specs.declared.Parts.TheVariants.{Signal, One, Two}
 use Rattle.formula_lines.specs.declared.Read.{Read}
 use Rattle.formula_lines.specs.declared.Operands.{Operands}
 
@@ -19,10 +25,31 @@ use Rattle.formula_lines.specs.declared.Operands.{Operands}
 abbrev pub KeywordOf : List ℕ → Language
 KeywordOf ks w = (k : ℕ) × T (elem k ks) × (w ≡ keyword k)
 
--- At the first place none need have begun.
-abbrev pub KeywordRead : List ℕ → List ℕ → ℕ → Keyword → Type 0
-KeywordRead ks s at (Keyword.Found kind next) = T (elem kind ks) × Stands (keyword kind) s at next
-KeywordRead ks s at (Keyword.FaultAt p) = Halts (λ w. (w ≡ []) ⊎ KeywordOf ks w) (Begins (KeywordOf ks)) s at p
+-- Up to a place none of the keywords stands. At the first place none need have begun.
+abbrev pub NoneOf : List ℕ → List ℕ → ℕ → ℕ → Type 0
+NoneOf ks = Halts (λ w. (w ≡ []) ⊎ KeywordOf ks w) (Begins (KeywordOf ks))
+
+abbrev pub KeywordRead : List ℕ → List ℕ → ℕ → ℕ → Result Kind Fault → Type 0
+KeywordRead ks s at next (Ok k) = T (elem (number k) ks) × Stands (keyword (number k)) s at next
+KeywordRead ks s at next (Err f) = NoneOf ks s at f.0
+
+-- ── Sorts and kinds ──
+
+-- A sort's number: 0 for a Boolean and 1 for a formula.
+abbrev pub sort_number : Sort → ℕ
+sort_number Sort.Boolean = 0
+sort_number Sort.Formula = 1
+
+-- The kinds of a sort that stand in brackets.
+abbrev pub kinds_of : Sort → List Kind
+kinds_of Sort.Boolean = Var ∷ Bnot ∷ Band ∷ []
+kinds_of Sort.Formula = Weak ∷ Strong ∷ Not ∷ And ∷ Next ∷ Until ∷ Abort ∷ []
+
+-- What stands in a kind's brackets: as many forms as it takes, of their sorts.
+abbrev pub PartsAre : ℕ → Parts → Type 0
+PartsAre k Signal = arity k ≡ 0
+PartsAre k (One l) = (arity k ≡ 1) × (left_sort k ≡ sort_number l)
+PartsAre k (Two l r) = (arity k ≡ 2) × (left_sort k ≡ sort_number l) × (right_sort k ≡ sort_number r)
 
 -- ── Forms ──
 
@@ -52,9 +79,9 @@ pub record FormStands (f : Form) (s : List ℕ) (at n next nodes : ℕ) (large :
   pub signals : large ≡ wide f
   pub written : large ≡ false → (l₀ : List ℕ) (ns : List Node) → length ns ≡ n → l ≡ with_nodes l₀ ns → l' ≡ with_nodes l₀ (closed f ns)
 
-abbrev pub FormRead : ℕ → List ℕ → ℕ → ℕ → List ℕ → List ℕ → Read → Type 0
-FormRead so s at n l l' (Read.Found next nodes large) = (f : Form) × Sorted so f × FormStands f s at n next nodes large l l'
-FormRead so s at n l l' (Read.FaultAt p) = Stops (FormOf so) s at p
+abbrev pub FormRead : ℕ → List ℕ → ℕ → ℕ → ℕ → List ℕ → List ℕ → Result Read Fault → Type 0
+FormRead so s at next n l l' (Ok r) = (f : Form) × Sorted so f × FormStands f s at n next r.nodes r.large l l'
+FormRead so s at next n l l' (Err f) = Stops (FormOf so) s at f.0
 
 -- A number's end is told by what follows it.
 abbrev pub Ended : Form → List ℕ → Type 0
@@ -75,10 +102,10 @@ pub record OperandsStand (f : Form) (s : List ℕ) (at n next nodes kind left ri
   pub written : large ≡ false → (l₀ : List ℕ) (ns : List Node) → length ns ≡ n → l ≡ with_nodes l₀ ns
       → sets l' (3 * nodes) (kind ∷ left ∷ right ∷ []) ≡ with_nodes l₀ (closed f ns)
 
-abbrev pub OperandsRead : ℕ → List ℕ → ℕ → ℕ → List ℕ → List ℕ → Operands → Type 0
-OperandsRead kind s at n l l' (Operands.Found next nodes left right large) =
-    (f : Form) × OfKind kind f × OperandsStand f s at n next nodes kind left right large l l'
-OperandsRead kind s at n l l' (Operands.FaultAt p) = Stops (OperandsOf kind) s at p
+abbrev pub OperandsRead : ℕ → List ℕ → ℕ → ℕ → ℕ → List ℕ → List ℕ → Result Operands Fault → Type 0
+OperandsRead kind s at next n l l' (Ok o) =
+    (f : Form) × OfKind kind f × OperandsStand f s at n next o.read.nodes kind o.left o.right o.read.large l l'
+OperandsRead kind s at next n l l' (Err f) = Stops (OperandsOf kind) s at f.0
 
 -- ── A whole line ──
 
@@ -92,6 +119,6 @@ pub record WholeStands (f : Formula) (s : List ℕ) (nodes : ℕ) (large : Bool)
   pub signals : large ≡ large_signal f
   pub written : large ≡ false → l' ≡ with_nodes l (closing_nodes f)
 
-abbrev pub WholeRead : List ℕ → List ℕ → List ℕ → Read → Type 0
-WholeRead s l l' (Read.Found next nodes large) = (f : Formula) × WholeStands f s nodes large l l'
-WholeRead s l l' (Read.FaultAt p) = StopsLine SpellsFormula s 0 p
+abbrev pub WholeRead : List ℕ → List ℕ → List ℕ → Result Read Fault → Type 0
+WholeRead s l l' (Ok r) = (f : Formula) × WholeStands f s r.nodes r.large l l'
+WholeRead s l l' (Err f) = StopsLine SpellsFormula s 0 f.0

@@ -1,31 +1,43 @@
 -- `check_ltl` answers for the length, then for the lowest node that is refused.
-use mathlib.Core.Path.{◌≡◌, sym, ap}
-use mathlib.Core.Bool.{true}
-use lib.ListN.{length}
+use mathlib.Core.Path.{◌≡◌, sym, ap, ◌∙◌}
+use mathlib.Core.Bool.{true, not}
 use native.Mathlib.Omega.{arith}
-use Rattle.table.specs.Check.{length_fits}
+use lib.ListN.{length}
+use borrow.Author.Tests.{not-true, not-false}
 use Rattle.table.specs.Answer.{checked}
-use Rattle.table.proofs.CheckLaw.{sized, refused-node, refused_none}
-use Rattle.table.proofs.FirstLaw.{length-passed, length_failed}
+use Rattle.table.specs.Node.{node_at}
+use Rattle.table.specs.Check.{length_fits, refusal_at}
+use Rattle.table.specs.Inner.Place.{node_low}
+use Rattle.table.proofs.CheckLaw.{refused-node, refused_none, lowest-zero, lowest-next}
+use Rattle.table.proofs.FirstLaw.{length-passed, length_failed, low_read, node_passed, node_failed}
 use Rattle.ltl.specs.Check.{ltl_rules}
-use mathlib.Core.Bool.{not}
 use Rattle.ltl.proofs.check_ltl.Goals as goal
-use Rattle.ltl.proofs.check_ltl.Goals.{Else-not-length_fits}
+use Rattle.ltl.proofs.check_ltl.Goals.{Else-not-length_fits, After-low_node}
 
 -- Past the test of the length.
-right_length : (e : Else-not-length_fits) → let a = e.args in length_fits ltl_rules.most (length a.t.now) ≡ true
+right_length : (e : Else-not-length_fits) → length_fits ltl_rules.most (length e.args.t.now) ≡ true
 right_length e = length-passed ltl_rules e.args.t.now e.length_fits.ensures (ap not e.if-not-length_fits.false)
+
+-- The tests of the node that was read are those of node i.
+low : (l : After-low_node) → l.low_node.result ≡ node_low ltl_rules l.loop-i.i (node_at l.args.t.now l.loop-i.i)
+low l = let n = l.node_in.ensures in l.low_node.ensures ∙ low_read ltl_rules l.args.t.now l.loop-i.i n.0 n.1 n.2
 
 pub returns-then-not-length_fits : goal.returns-then-not-length_fits
 returns-then-not-length_fits c = sym (ap checked (length_failed ltl_rules c.args.t.now c.length_fits.ensures (ap not c.if-not-length_fits.true)))
 
-pub first_refused-i-requires : goal.first_refused-i-requires
-first_refused-i-requires c = omega (arith, (sized ltl_rules c.args.t.now (right_length c)).low)
+pub loop-i-init : goal.loop-i-init
+loop-i-init c = lowest-zero _
 
-pub returns-then-t-i : goal.returns-then-t-i
-returns-then-t-i c = let F = c.first_refused-i.ensures in
-    sym (ap checked (refused_none ltl_rules c.args.t.now (right_length (goal.at.returns-then-t-i c).Else-not-length_fits) c.first_refused-i.result (omega (arith, F.within)) F.passed))
+pub returns-then-not-low_node : goal.returns-then-not-low_node
+returns-then-not-low_node c = let t = c.args.t.now in
+    refused-node ltl_rules t (right_length (goal.at.returns-then-not-low_node c).Else-not-length_fits) c.loop-i.i c.refused_at.result (omega arith) c.loop-i.invariant
+    (node_failed ltl_rules t c.loop-i.i (sym (low (goal.at.returns-then-not-low_node c).After-low_node) ∙ not-true _ (ap not c.if-not-low_node.true))) c.refused_at.ensures
+
+pub loop-i-preserved : goal.loop-i-preserved
+loop-i-preserved c = let t = c.args.t.now in
+    lowest-next (refusal_at ltl_rules t) c.loop-i.i c.loop-i.invariant
+    (node_passed ltl_rules t c.loop-i.i (sym (low (goal.at.loop-i-preserved c).After-low_node) ∙ not-false _ (ap not c.if-not-low_node.false)))
 
 pub returns : goal.returns
-returns c = let F = c.first_refused-i.ensures in
-    refused-node ltl_rules c.args.t.now (right_length (goal.at.returns c).Else-not-length_fits) c.first_refused-i.result c.refused_at.result (omega arith) F.passed (F.stopped (omega arith)) c.refused_at.ensures
+returns c = let t = c.args.t.now in
+    sym (ap checked (refused_none ltl_rules t (right_length (goal.at.returns c).Else-not-length_fits) c.loop-i.i (omega arith) c.loop-i.invariant))

@@ -1,70 +1,80 @@
--- `ltl_verdict::fill_rows` meets its contract. The invariant: the first i words are the rows of the first i nodes.
-use Rattle.std.proofs.Common.{rules}
-use native.Mathlib.Omega.{arith}
-use mathlib.Core.Path.{◌≡◌, refl, subst, ◌∙◌}
+-- The rows go from node 0 up.
+use Rattle.std.proofs.Common.{◌≡◌, ℕ, ◌+◌, ◌<◌, List, length, get_or, set, ◌∙◌, refl, sym, subst, arith}
 use mathlib.Core.Option.{none}
-use mathlib.Core.List.{List}
-use Prim.Native.Nat.{ℕ, ◌+◌, ◌≤◌, ◌<◌}
-use lib.ListN.{length, get_or, length-set}
-use Rattle.logic.specs.Letter.{signals}
 use Rattle.table.specs.Node.{count, kind_at, left_at, right_at}
+use Rattle.logic.specs.Tree.{lvar}
+use Rattle.trace.specs.declared.TraceView.{TraceView}
+use Rattle.ltl.specs.declared.kind.Kind.{Kind}
+use Rattle.ltl.specs.declared.kind.Kind.TheVariants.{True, Var, Not, And, Or, Next, Until}
+use Rattle.ltl.specs.Kind.{number}
 use Rattle.ltl.specs.Check.{ltl_refusal}
-use Rattle.ltl.proofs.AcceptedLaw.{is-var, operands_below}
-use Rattle.rows.specs.Inner.Rows.{TellsNode, RowsKnown}
-use Rattle.rows.proofs.SignalLaw.{known-none}
-use Rattle.rows.proofs.TableLaw.{FirstRows, rows_none, rows_more, rows_all, tells-signal}
+use Rattle.ltl.proofs.AcceptedLaw.{most-nodes, is-var, operands_below}
+use Rattle.rows.specs.Inner.Rows.{TellsOn, TellsNode}
+use Rattle.rows.proofs.TableLaw.{FirstRows, rows_more, tells-signal}
 use Rattle.ltl_verdict.proofs.fill_rows.Goals as goal
-use Rattle.ltl_verdict.proofs.fill_rows.Goals.{then-kind-eq-VAR, else-kind-eq-VAR}
+use Rattle.ltl_verdict.proofs.fill_rows.Goals.{In-loop-i, After-node-node, in-Var, in_default}
 
--- Where the first i words are the rows of the first i nodes, the rows of node i's operands are there.
-below : (t told : List ℕ) (i n : ℕ) → ltl_refusal t ≡ none → i < count t → (kind_at t i ≡ 1 → ⊥) → length told ≡ n → count t ≤ n
-    → (left_at t i < length told) × (right_at t i < length told)
-below t told i n fine inside e l h = operands_below t fine i inside e (length told) (omega arith)
+signal : (k : Kind) → number k ≡ 1 → k ≡ Var
+signal True e = absurd (omega (arith, e))
+signal Var e = refl
+signal Not e = absurd (omega (arith, e))
+signal And e = absurd (omega (arith, e))
+signal Or e = absurd (omega (arith, e))
+signal Next e = absurd (omega (arith, e))
+signal Until e = absurd (omega (arith, e))
 
-pub loop-i-init : goal.loop-i-init
-loop-i-init c = (search rules, omega arith, refl, search rules, rows_none, known-none)
+-- One node more, by what its three numbers are.
+more : {lead loop : List ℕ} (t told : List ℕ) (i k l r v : ℕ) → ltl_refusal t ≡ none → i < count t → i < length told
+    → k ≡ kind_at t i → l ≡ left_at t i → r ≡ right_at t i → TellsNode lead loop k l (get_or told l 0) (get_or told r 0) v
+    → FirstRows lead loop t i told → FirstRows lead loop t (i + 1) (set told i v)
+more t told i k l r v fine h g ek el er N W = rows_more i v fine h g (rw (sym ek, sym el, sym er) N) W
 
-pub row_at-a-requires : goal.row_at-a-requires
-row_at-a-requires c =
-    let I = c.loop-i.invariant in
-    omega (arith, below c.args.t.now c.loop-i.told c.loop-i.i _ c.requires.0 (omega (arith, I.0)) c.if-kind-eq-VAR.false I.2 c.requires.2)
+inside : (c : In-loop-i) → c.loop-i.i < count c.args.t.numbers.now
+inside c = omega (arith, c.loop-i-test.true, c.nodes-i-end.ensures)
 
-pub row_at-b-requires : goal.row_at-b-requires
-row_at-b-requires c =
-    let I = c.loop-i.invariant in
-    omega (arith, below c.args.t.now c.loop-i.told c.loop-i.i _ c.requires.0 (omega (arith, I.0)) c.if-kind-eq-VAR.false I.2 c.requires.2)
+-- The rows of a node's operands are there.
+below : (c : After-node-node) → (c.node-node.result.kind ≡ Var → ⊥)
+    → (c.node-node.result.left < length c.loop-i.told) × (c.node-node.result.right < length c.loop-i.told)
+below c h = let t = c.args.t.numbers.now in
+    let N = c.node-node.ensures in
+    let o = operands_below t c.args.t.accepted c.loop-i.i (omega (arith, c.loop-i-test.true, c.nodes-i-end.ensures)) (λ e. h (signal c.node-node.result.kind (N.0 ∙ e))) (length c.loop-i.told) (omega (arith, c.requires.1)) in
+    rw (N.1, N.2) o
+
+pub overflow_cast-i : goal.overflow_cast-i
+overflow_cast-i c = omega (arith, inside c, most-nodes c.args.t.numbers.now c.args.t.accepted)
+
+pub bounds-told-from : goal.bounds-told-from
+bounds-told-from c = omega (arith, c.from.ensures, below (goal.at.bounds-told-from c).After-node-node c.in_default.not-Var)
+
+pub bounds-told-from-in_default : goal.bounds-told-from-in_default
+bounds-told-from-in_default c = omega (arith, c.from-in_default.ensures, below (goal.at.bounds-told-from-in_default c).After-node-node c.in_default.not-Var)
 
 pub loop-i-preserved : goal.loop-i-preserved
-loop-i-preserved c =
-    let a = c.args in
-    let t = a.t.now in
+loop-i-preserved c = let t = c.args.t.numbers.now in
     let i = c.loop-i.i in
     let W = c.loop-i.told in
     let I = c.loop-i.invariant in
-    let few = c.requires.1 in
-    let inside : i < count t = omega (arith, I.0) in
-    let room : i < length W = omega (arith, I.2, c.requires.2) in
-    let next : (length c.if-kind-eq-VAR.told ≡ length a.told.now) × (length c.if-kind-eq-VAR.vars ≡ signals)
-    × FirstRows a.lead.now a.cycle.now t (i + 1) c.if-kind-eq-VAR.told
-    × RowsKnown a.lead.now a.cycle.now c.if-kind-eq-VAR.known c.if-kind-eq-VAR.vars =
-    elim c.if-kind-eq-VAR.branch [
-      | then-kind-eq-VAR w ↦
-          let K = w.learn-known.ensures few (is-var t c.requires.0 i inside w.if-kind-eq-VAR.true) (omega (arith, I.3)) I.5 in
-          let row = K.0.row (left_at t i) (is-var t c.requires.0 i inside w.if-kind-eq-VAR.true) K.1 in
-          rw (w.told-is, w.vars-is, w.known-is)
-          (simp length-set I.2, w.learn-known.auto.rows ∙ I.3, rows_more i _ c.requires.0 inside room (tells-signal w.if-kind-eq-VAR.true row) I.4, K.0)
-      | else-kind-eq-VAR w ↦
-          let node = TellsNode a.lead.now a.cycle.now (kind_at t i) (left_at t i) in
-          let N = w.node_row.ensures a.lead.now a.cycle.now (left_at t i) few refl w.if-kind-eq-VAR.false in
-          let M = subst (λ (y : ℕ). node (get_or W (left_at t i) 0) y w.node_row.result) w.row_at-b.ensures
-          (subst (λ (x : ℕ). node x w.row_at-b.result w.node_row.result) w.row_at-a.ensures N) in
-          rw (w.told-is, w.vars-is, w.known-is) (simp length-set I.2, I.3, rows_more i w.node_row.result c.requires.0 inside room M I.4, I.5)
-    ] in
-    (I.0, omega arith, next.0, next.1, next.2, next.3)
-
-pub returns : goal.returns
-returns c = let I = c.loop-i.invariant in rows_all (omega (arith, I.0, I.1)) I.4
-
--- The signal whose row is read is one of a word.
-pub bounds-vars-left : goal.bounds-vars-left
-bounds-vars-left c = omega (arith, is-var c.args.t.now c.requires.0 c.loop-i.i (omega (arith, c.loop-i.invariant.0)) c.if-kind-eq-VAR.true)
+    let n = c.node-node.result in
+    let N = c.node-node.ensures in
+    let few = c.requires.0 in
+    let fine = c.args.t.accepted in
+    let h = inside (goal.at.loop-i-preserved c).In-loop-i in
+    let room : i < length W = omega (arith, h, c.requires.1) in
+    elim c.match-node.branch [
+      | in-Var w ↦
+          let e : number n.kind ≡ 1 = rw w.in-Var.is refl in
+          let b : n.left < 32 = omega (arith, N.1, is-var t fine i h (sym N.0 ∙ e)) in
+          let row = subst (λ (T : TraceView). TellsOn T w.row.result (lvar n.left)) I.same_trace (w.row.ensures.tells b) in
+          record {
+            same_trace = rw w.signals-is (w.row.ensures.same_trace ∙ I.same_trace);
+            first = rw w.told-is (more t W i (number n.kind) n.left n.right w.row.result fine h room N.0 N.1 N.2 (tells-signal e (row few)) I.first);
+          }
+      | in_default w ↦
+          record {
+            same_trace = rw w.signals-is I.same_trace;
+            first = rw w.told-is (
+                more t W i (number n.kind) w.from.result w.from-in_default.result w.node_row.result fine h room
+                N.0 (w.from.ensures ∙ N.1) (w.from-in_default.ensures ∙ N.2)
+                (w.node_row.ensures w.from.result few w.in_default.not-Var) I.first);
+          }
+    ]

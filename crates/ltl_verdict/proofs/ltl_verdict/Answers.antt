@@ -1,14 +1,9 @@
--- `ltl_verdict::ltl_verdict` meets its contract: the table's refusal, or the verdict on an accepted table.
-use Rattle.table.proofs.CheckLaw.{accepted as accepted-none, was_refused}
-use Rattle.ltl.specs.Check.{ltl_refusal}
+-- The table's refusal comes first.
+use Rattle.std.proofs.Common.{rules, ◌≡◌, Err}
 use Rattle.ltl_verdict.proofs.JudgesLaw.{ltl_check}
 use Rattle.ltl_verdict.proofs.ltl_verdict.Goals as goal
 
-pub judge_ltl-requires : goal.judge_ltl-requires
-judge_ltl-requires c = let t = c.args.t.now in
-    accepted-none (ltl_refusal t) c.check_ltl.result c.check_ltl.ensures c.in-Accepted.is
-
-pub returns-in-Refused : goal.returns-in-Refused
-returns-in-Refused c = let a = c.args in
-    let x = was_refused (ltl_refusal a.t.now) c.check_ltl.result _ c.check_ltl.ensures c.in-Refused.is in
-    ltl_check a.t.now a.lead.now a.cycle.now x
+pub returns-in_err-new : goal.returns-in_err-new
+returns-in_err-new c = let a = c.args in
+    let h : c.from_residual.result ≡ Err c.in_err-new.field-0.0 = search rules in
+    rw h (ltl_check a.t.now a.trace.lead.now a.trace.cycle.now c.in_err-new.ensures)

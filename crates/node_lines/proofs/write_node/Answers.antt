@@ -1,27 +1,22 @@
--- Each refusal first; then the line written aside gives its length, and its bytes are put into the lent list.
+-- Each refusal first; then the line written aside gives its length, and its bytes are copied into the lent list.
 use native.Mathlib.Omega.{arith}
-use Rattle.node_lines.proofs.WriterLaw.{line_length}
-use Rattle.node_lines.proofs.NodeLaw.{own_large, faulty, no_room, line_written}
+use mathlib.Core.Path.{◌≡◌}
+use mathlib.Core.List.{◌++◌}
+use lib.ListN.{drop}
+use Rattle.std.proofs.Common.{rules}
+use Rattle.node_lines.proofs.WriterLaw.{line_aside}
+use Rattle.node_lines.proofs.NodeLaw.{low, no_room, line_written}
 use Rattle.node_lines.proofs.write_node.Goals as goal
 
-pub returns-then-no-ge-MOST_NODES : goal.returns-then-no-ge-MOST_NODES
-returns-then-no-ge-MOST_NODES c = let x = c.args in
-    let both = own_large x.no.0 x.kind x.left x.right x.out.now c.if-no-ge-MOST_NODES.true in
-    record { value = both.0; out_after = both.1 }
-
 pub returns-then-out-n : goal.returns-then-out-n
-returns-then-out-n c = let x = c.args in
-    let short = line_length x.no.0 x.kind x.left x.right (omega arith) (omega arith) (omega arith) in
-    let both = no_room x.no.0 x.kind x.left x.right x.out.now (omega (arith, c.if-no-ge-MOST_NODES.false)) c.check_alone.result c.check_alone.ensures c.in-Accepted.is c.put_line-n.result c.put_line-n.ensures (omega (arith, short)) c.if-out-n.true in
+returns-then-out-n c = let x = c.args.x in
+    let aside = line_aside c.args.no.0 x.kind x.left x.right _ c.put_line.new.out.items (omega arith) (omega arith) (omega arith) c.new-line.ensures c.put_line.ensures in
+    let both = no_room c.args.no.0 x.kind x.left x.right c.args.out.now (omega (arith, c.if-no-ge-MOST_NODES.false)) c.check_alone.result c.check_alone.ensures c.in_ok-check_alone.was _ aside (omega (arith, c.len-n.ensures.value, c.if-out-n.true)) in
     record { value = both.0; out_after = both.1 }
 
-pub returns-in-Refused : goal.returns-in-Refused
-returns-in-Refused c = let x = c.args in
-    let both = faulty x.no.0 x.kind x.left x.right x.out.now (omega (arith, c.if-no-ge-MOST_NODES.false)) c.check_alone.result c.check_alone.ensures c.in-Refused.x c.in-Refused.is in
-    record { value = both.0; out_after = both.1 }
-
-pub returns-else-out-n : goal.returns-else-out-n
-returns-else-out-n c = let x = c.args in
-    let short = line_length x.no.0 x.kind x.left x.right (omega arith) (omega arith) (omega arith) in
-    let both = line_written x.no.0 x.kind x.left x.right x.out.now (omega (arith, c.if-no-ge-MOST_NODES.false)) c.check_alone.result c.check_alone.ensures c.in-Accepted.is c.put_line-n.result c.put_line-n.ensures (omega (arith, short)) (omega (arith, c.if-out-n.false)) c.put_text.ensures in
+pub returns : goal.returns
+returns c = let x = c.args.x in
+    let aside = line_aside c.args.no.0 x.kind x.left x.right _ c.put_line.new.out.items (omega arith) (omega arith) (omega arith) c.new-line.ensures c.put_line.ensures in
+    let written : c.copy_from_slice.new.self ++ drop c.len-n.result c.args.out.now ≡ c.put_line.new.out.items ++ drop c.len-n.result c.args.out.now = search rules in
+    let both = line_written c.args.no.0 x.kind x.left x.right c.args.out.now (omega (arith, c.if-no-ge-MOST_NODES.false)) c.check_alone.result c.check_alone.ensures c.in_ok-check_alone.was _ aside c.len-n.result c.len-n.ensures.value c.if-out-n.false written in
     record { value = both.0; out_after = both.1 }

@@ -1,10 +1,8 @@
 -- What the inner writer of a node's places promises.
-use Rattle.std.specs.Prelude.{List, [], ◌++◌, ℕ, zero, suc}
+use Rattle.std.specs.Prelude.{List, ◌++◌, ℕ, map}
 use Rattle.text.specs.Text.{text}
-use Rattle.text.specs.Spelling.{digits}
+use Rattle.text.specs.Spelling.{digits, ending}
 
--- The first n of two numbers, a space before each.
-abbrev pub spaced : ℕ → ℕ → ℕ → List ℕ
-spaced zero p q = []
-spaced (suc zero) p q = text " " ++ digits p
-spaced (suc (suc n)) p q = text " " ++ (digits p ++ (text " " ++ digits q))
+-- Numbers, a space before each, the closing bracket and byte 10.
+abbrev pub line_end : List ℕ → List ℕ
+line_end xs = ending (map digits xs) ++ text "\n"

@@ -1,15 +1,12 @@
--- `check_psl` answers for the length, then for the nodes, from cleared counts, of which there are enough.
+-- `check_psl` answers for the length, then for the nodes.
 use mathlib.Core.Path.{◌≡◌, sym, ap}
-use mathlib.Core.Bool.{true}
+use mathlib.Core.Bool.{true, not}
 use lib.ListN.{length}
-use native.Mathlib.Omega.{arith}
 use Rattle.table.specs.Check.{length_fits}
 use Rattle.table.specs.Answer.{checked}
-use Rattle.table.proofs.CheckLaw.{sized}
 use Rattle.table.proofs.FirstLaw.{length-passed, length_failed}
 use Rattle.psl.specs.Check.{psl_rules}
-use Rattle.psl.proofs.CheckLaw.{untallied, psl-first}
-use mathlib.Core.Bool.{not}
+use Rattle.psl.proofs.CheckLaw.{psl-first}
 use Rattle.psl.proofs.check_psl.Goals as goal
 use Rattle.psl.proofs.check_psl.Goals.{Else-not-length_fits}
 
@@ -20,10 +17,3 @@ right_length e = length-passed psl_rules e.args.t.now e.length_fits.ensures (ap 
 pub returns-then-not-length_fits : goal.returns-then-not-length_fits
 returns-then-not-length_fits c = let t = c.args.t.now in
     sym (ap checked (psl-first t _ (length_failed psl_rules t c.length_fits.ensures (ap not c.if-not-length_fits.true))))
-
-pub check_nodes-requires : goal.check_nodes-requires
-check_nodes-requires c = untallied c.args.t.now 128 (right_length (goal.at.check_nodes-requires c).Else-not-length_fits) (omega arith)
-
-pub check_nodes-requires-else-t-le-FEW_NUMBERS : goal.check_nodes-requires-else-t-le-FEW_NUMBERS
-check_nodes-requires-else-t-le-FEW_NUMBERS c = let t = c.args.t.now in
-    untallied t psl_rules.most (right_length (goal.at.check_nodes-requires-else-t-le-FEW_NUMBERS c).Else-not-length_fits) (sized psl_rules t (right_length (goal.at.check_nodes-requires-else-t-le-FEW_NUMBERS c).Else-not-length_fits)).low

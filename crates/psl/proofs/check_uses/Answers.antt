@@ -13,16 +13,16 @@ few : (st : Start) → Sized psl_rules st.args.t.now
 few st = sized psl_rules _ st.requires.right_length
 
 pub loop-j-init : goal.loop-j-init
-loop-j-init c = (omega arith, lowest-zero _)
+loop-j-init c = lowest-zero _
 
 pub returns-then-c-j-ne1 : goal.returns-then-c-j-ne1
-returns-then-c-j-ne1 c = sym (ap checked (uses-refused _ c.loop-j.j (omega arith) c.loop-j.invariant.1 (misused c.requires c.loop-j.j (omega (arith, (few (goal.at.returns-then-c-j-ne1 c).Start).some)) c.if-c-j-ne1.true)))
+returns-then-c-j-ne1 c = sym (ap checked (uses-refused _ c.loop-j.j (omega arith) c.loop-j.invariant (misused c.requires c.loop-j.j (omega (arith, (few (goal.at.returns-then-c-j-ne1 c).Start).some)) c.if-c-j-ne1.true)))
 
 pub loop-j-preserved : goal.loop-j-preserved
-loop-j-preserved c = (omega arith, lowest-next (use_refusal _) c.loop-j.j c.loop-j.invariant.1 (used_once c.requires c.loop-j.j (omega (arith, (few (goal.at.loop-j-preserved c).Start).some)) c.if-c-j-ne1.false))
+loop-j-preserved c = lowest-next (use_refusal _) c.loop-j.j c.loop-j.invariant (used_once c.requires c.loop-j.j (omega (arith, (few (goal.at.loop-j-preserved c).Start).some)) c.if-c-j-ne1.false)
 
 pub returns-then-t-last-lt-BOOLEANS : goal.returns-then-t-last-lt-BOOLEANS
-returns-then-t-last-lt-BOOLEANS c = sym (ap checked (root-refused _ c.loop-j.j (omega arith) c.loop-j.invariant.1 (lt-ltb _ 4 c.if-t-last-lt-BOOLEANS.true)))
+returns-then-t-last-lt-BOOLEANS c = sym (ap checked (root-refused _ c.loop-j.j (omega arith) c.loop-j.invariant (lt-ltb _ 4 c.if-t-last-lt-BOOLEANS.true)))
 
 pub returns : goal.returns
-returns c = sym (ap checked (root_fine _ c.loop-j.j (omega arith) c.loop-j.invariant.1 (le-ltb _ 4 c.if-t-last-lt-BOOLEANS.false)))
+returns c = sym (ap checked (root_fine _ c.loop-j.j (omega arith) c.loop-j.invariant (le-ltb _ 4 c.if-t-last-lt-BOOLEANS.false)))

@@ -5,7 +5,7 @@ use Rattle.table.specs.Node.{count}
 use Rattle.table.specs.Rules.{Use}
 use Rattle.table.specs.Check.{length_fits, refusal_at}
 use Rattle.trace.specs.Refusal.{lowest}
-use Rattle.table.specs.Inner.Place.{coded, operand_or, bound}
+use Rattle.table.specs.Inner.Place.{operand_or}
 use Rattle.psl.specs.Check.{psl_rules, names, names_at, total}
 
 -- d is c with the uses by a place that holds n added.
@@ -13,19 +13,16 @@ pub record Counted (u : Use) (n : ℕ) (c d : List ℕ) : Type 0 where
   pub same : length d ≡ length c
   pub more : (j : ℕ) → j < length c → get_or d j 0 ≡ get_or c j 0 + names u n j
 
--- The code's place p of node i holds n, which is low enough.
-pub record LowPlace (p n i : ℕ) : Type 0 where
-  pub meant : Use
-  pub is : p ≡ coded meant
-  pub low : n < bound meant i
-  pub few : i ≤ psl_rules.most
+-- What a place that holds n names is counted in c, where there is room for one more.
+pub record CountRoom (u : Use) (n : ℕ) (c : List ℕ) : Type 0 where
+  pub inside : operand_or u n 0 < length c
+  pub room : get_or c (operand_or u n 0) 0 < 65535
 
--- The code's place p, which holds n, is counted in c where there is room for one more.
-pub record CountRoom (p n : ℕ) (c : List ℕ) : Type 0 where
-  pub user : ℕ
-  pub place : LowPlace p n user
-  pub inside : operand_or place.meant n 0 < length c
-  pub room : get_or c (operand_or place.meant n 0) 0 < 65535
+-- A table of the right length has at most n nodes, and n is no more than there may be.
+pub record RoomForNodes (t : List ℕ) (n : ℕ) : Type 0 where
+  pub right_length : length_fits psl_rules.most (length t) ≡ true
+  pub for_nodes : count t ≤ n
+  pub few : n ≤ psl_rules.most
 
 -- Of a table of the right length whose first i nodes are not refused, c holds how often these name each node.
 pub record Tallied (t : List ℕ) (i : ℕ) (c : List ℕ) : Type 0 where

@@ -1,48 +1,36 @@
--- `psl_verdict::psl_holds` meets its contract: on the empty trace by the formula's shape, else by the translation's row at moment 0.
-use native.Mathlib.Omega.{arith}
-use mathlib.Core.Path.{◌≡◌, refl}
+-- On the empty trace by the formula's shape, else by the translation's row at moment 0.
+use Rattle.std.proofs.Common.{◌≡◌, ℕ, ◌-◌, ◌≤◌, ◌<◌, List, arith}
 use mathlib.Core.Option.{none}
-use mathlib.Core.List.{List}
-use Prim.Native.Nat.{ℕ, ◌-◌, ◌≤◌, ◌<◌}
 use Rattle.table.specs.Node.{count, kind_at}
 use Rattle.psl.specs.Inner.Parts.{formula_at}
-use Rattle.psl.specs.Check.{psl_refusal, psl_rules}
-use Rattle.psl.proofs.AcceptedLaw.{some-node, most-nodes, root-formula}
+use Rattle.psl.specs.Check.{psl_refusal}
+use Rattle.psl.proofs.AcceptedLaw.{some-node, root-formula}
 use Rattle.logic.specs.Translation.{translated, falsum}
 use Rattle.rows.specs.Inner.Rows.{FitsRow}
 use Rattle.rows.proofs.RowLaw.{tells-false}
 use Rattle.psl_verdict.proofs.HoldsLaw.{holds-none, holds-some}
 use Rattle.psl_verdict.proofs.psl_holds.Goals as goal
 
-nodes : (t : List ℕ) → psl_refusal t ≡ none → (0 < count t) × (count t ≤ psl_rules.most)
-nodes t fine = (some-node t fine, most-nodes t fine)
-
--- What is asked for the root, which is a formula.
-root : (t : List ℕ) → psl_refusal t ≡ none → (psl_refusal t ≡ none) × (count t - 1 < count t) × (4 ≤ kind_at t (count t - 1))
-root t fine = (fine, omega (arith, (nodes t fine).0), root-formula t fine)
-
-pub overflow_sub-root : goal.overflow_sub-root
-overflow_sub-root c = omega (arith, nodes c.args.t.now c.requires.0)
-
-pub overflow_cast-root : goal.overflow_cast-root
-overflow_cast-root c = omega (arith, nodes c.args.t.now c.requires.0)
+-- The root is a node, and a formula.
+root : (t : List ℕ) → psl_refusal t ≡ none → (count t - 1 < count t) × (4 ≤ kind_at t (count t - 1))
+root t fine = (omega (arith, some-node t fine), root-formula t fine)
 
 pub on_empty-requires : goal.on_empty-requires
-on_empty-requires c = root c.args.t.now c.requires.0
+on_empty-requires c = rw c.root-root.ensures (root c.args.t.numbers.now c.args.t.accepted)
 
-pub returns-then-letters-eq0 : goal.returns-then-letters-eq0
-returns-then-letters-eq0 c = holds-none c.args.t.now c.args.lead.now c.args.cycle.now c.if-letters-eq0.true c.on_empty.ensures
+pub returns-then-size-eq0 : goal.returns-then-size-eq0
+returns-then-size-eq0 c = let z = c.args.trace in
+    holds-none c.args.t.numbers.now z.lead.now z.cycle.now (omega (arith, c.size.ensures, c.if-size-eq0.true)) (rw c.root-root.ensures at c.on_empty.ensures)
 
 pub formula_row-requires : goal.formula_row-requires
-formula_row-requires c = root c.args.t.now c.requires.0
+formula_row-requires c = rw c.root-root.ensures (root c.args.t.numbers.now c.args.t.accepted)
 
 pub returns : goal.returns
 returns c =
-    let t = c.args.t.now in
-    let l = c.args.lead.now in
-    let m = c.args.cycle.now in
-    let w : FitsRow l m = record { some = omega (arith, c.if-letters-eq0.false); most = c.requires.1 } in
-    let row = c.formula_row.ensures l m w refl c.signal_rows.ensures falsum falsum
-    (record { accept = tells-false w; reject = tells-false w }) in
-    holds-some t l m c.holds_first.result w
-    (c.holds_first.ensures l m (translated (formula_at t (count t - 1)) falsum falsum) w refl row)
+    let t = c.args.t.numbers.now in
+    let z = c.args.trace in
+    let few : FitsRow z.lead.now z.cycle.now = record { some = omega (arith, c.size.ensures, c.if-size-eq0.false); most = c.requires } in
+    let F = rw (c.new-signals.ensures, c.root-root.ensures) at c.formula_row.ensures.tells in
+    let row = F falsum falsum (record { accept = tells-false; reject = tells-false }) in
+    holds-some t z.lead.now z.cycle.now c.holds_first.result few
+    (c.holds_first.ensures (translated (formula_at t (count t - 1)) falsum falsum) few row)

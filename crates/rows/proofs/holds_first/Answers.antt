@@ -1,5 +1,5 @@
 -- The bit of the first letter stands for moment 0.
-use Rattle.std.proofs.Common.{◌≡◌, ℕ, ◌-◌, ◌/◌, ◌%◌, ◌^◌, Bool, T, ◌↔◌, sym, ◌∙◌, subst, arith}
+use Rattle.std.proofs.Common.{◌≡◌, ℕ, ◌+◌, ◌-◌, ◌/◌, ◌%◌, ◌^◌, Bool, T, ◌↔◌, sym, ◌∙◌, subst, arith}
 use Rattle.logic.specs.Letter.{bit}
 use Rattle.logic.specs.Trace.{size}
 use Rattle.logic.specs.LtlMeaning.{LtlHoldsOn}
@@ -9,8 +9,10 @@ use Rattle.trace.specs.Limits.{most_letters}
 use Rattle.rows.proofs.holds_first.Goals as goal
 
 pub returns : goal.returns
-returns c lead loop x few e W = let a = c.args in
-    let k = c.wrapping_sub_usize.result % most_letters in
-    let z : size lead loop - 1 ≡ k = omega (arith, c.wrapping_sub_usize.ensures.value) in
-    subst (λ (b : Bool). LtlHoldsOn x lead loop ↔ T b) (sym (test_first (a.w / 2 ^ k) ∙ bit_brought a.w k))
-    (subst (λ (m : ℕ). LtlHoldsOn x lead loop ↔ T (bit a.w m)) z (tells_first few W))
+returns c x few W = let w = c.args.w in
+    let lead = c.args.trace.lead.now in
+    let loop = c.args.trace.cycle.now in
+    let k = (c.size.result + (2 ^ 64 - 1)) % 2 ^ 64 % most_letters in
+    let z : size lead loop - 1 ≡ k = omega (arith, c.size.ensures, few.some, few.most) in
+    subst (λ (b : Bool). LtlHoldsOn x lead loop ↔ T b) (sym (test_first (w / 2 ^ k) ∙ bit_brought w k))
+    (subst (λ (m : ℕ). LtlHoldsOn x lead loop ↔ T (bit w m)) z (tells_first few (W few)))

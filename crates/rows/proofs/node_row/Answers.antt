@@ -1,39 +1,39 @@
--- Kind by kind, each by its function's contract.
-use Rattle.std.proofs.Common.{◌≡◌, ℕ, zero, suc, ◌<◌, sym, refl, subst, arith}
-use Rattle.table.specs.Node.{node}
-use Rattle.logic.specs.Tree.{Ltl, ltrue}
+-- Kind by kind, each by its law or its function's contract.
+use Rattle.std.proofs.Common.{◌≡◌, sym, refl, subst, inl, inr}
+use Rattle.ltl.specs.declared.kind.Kind.{Kind}
+use Rattle.ltl.specs.Kind.{number}
 use Rattle.ltl.specs.Table.{tree_of_node}
 use Rattle.ltl.specs.Check.{LeftOperand, RightOperand}
-use Rattle.rows.proofs.RowLaw.{tells-true}
+use Rattle.rows.proofs.RowLaw.{tells-true, tells-not, tells-and, tells-or}
 use Rattle.rows.proofs.node_row.Goals as goal
 
--- Kind 0, and what is no kind, stands for true.
-no_kind : (x : ℕ → Ltl) (k l r : ℕ) → (0 < k → 6 < k) → tree_of_node x (node k l r) ≡ ltrue
+left : {k k' : Kind} → k ≡ k' → LeftOperand (number k') → LeftOperand (number k)
+left e = subst (λ (k : Kind). LeftOperand (number k)) (sym e)
+
+right : {k k' : Kind} → k ≡ k' → RightOperand (number k') → RightOperand (number k)
+right e = subst (λ (k : Kind). RightOperand (number k)) (sym e)
+
+pub returns-in-True : goal.returns-in-True
 unfolding tree_of_node
-no_kind x zero l r h = refl
-no_kind x (suc zero) l r h = absurd (omega (arith, h (omega arith)))
-no_kind x (suc (suc zero)) l r h = absurd (omega (arith, h (omega arith)))
-no_kind x (suc (suc (suc zero))) l r h = absurd (omega (arith, h (omega arith)))
-no_kind x (suc (suc (suc (suc zero)))) l r h = absurd (omega (arith, h (omega arith)))
-no_kind x (suc (suc (suc (suc (suc zero))))) l r h = absurd (omega (arith, h (omega arith)))
-no_kind x (suc (suc (suc (suc (suc (suc zero)))))) l r h = absurd (omega (arith, h (omega arith)))
-no_kind x (suc (suc (suc (suc (suc (suc (suc k))))))) l r h = refl
+returns-in-True c l few n x r A B = elim c.in-True.is [ inl e ↦ rw e (tells-true few) | inr e ↦ absurd (n e) ]
 
-pub returns-then-k-lt-NOT : goal.returns-then-k-lt-NOT
-returns-then-k-lt-NOT c lead loop l few e n x r A B = rw (no_kind x c.args.k l r (λ h. absurd (n (omega arith)))) (tells-true few)
-
-pub returns-then-k-lt-NEXT : goal.returns-then-k-lt-NEXT
-returns-then-k-lt-NEXT c lead loop l few e n = c.logic_row.ensures lead loop l few
-
-pub returns-in-5 : goal.returns-in-5
+pub returns-in-Not : goal.returns-in-Not
 unfolding tree_of_node
-returns-in-5 c lead loop l few e n x r A B = let k = c.in-5.is in
-    rw k (c.next_row.ensures lead loop (x l) few e (A (subst LeftOperand (sym k) refl)))
+returns-in-Not c l few n x r A B = let e = c.in-Not.is in rw e (tells-not few c.ranges.a.fits (A (left e refl)))
 
-pub returns-in-6 : goal.returns-in-6
+pub returns-in-And : goal.returns-in-And
 unfolding tree_of_node
-returns-in-6 c lead loop l few e n x r A B = let k = c.in-6.is in
-    rw k (c.until_row.ensures lead loop (x l) (x r) few e (A (subst LeftOperand (sym k) refl)) (B (subst RightOperand (sym k) refl)))
+returns-in-And c l few n x r A B = let e = c.in-And.is in rw e (tells-and few (A (left e refl)) (B (right e refl)))
 
-pub returns-in_default : goal.returns-in_default
-returns-in_default c lead loop l few e n x r A B = rw (no_kind x c.args.k l r (λ h. omega arith)) (tells-true few)
+pub returns-in-Or : goal.returns-in-Or
+unfolding tree_of_node
+returns-in-Or c l few n x r A B = let e = c.in-Or.is in rw e (tells-or few (A (left e refl)) (B (right e refl)))
+
+pub returns-in-Next : goal.returns-in-Next
+unfolding tree_of_node
+returns-in-Next c l few n x r A B = let e = c.in-Next.is in rw e (c.next_row.ensures (x l) (λ _. A (left e refl)) few)
+
+pub returns-in-Until : goal.returns-in-Until
+unfolding tree_of_node
+returns-in-Until c l few n x r A B = let e = c.in-Until.is in
+    rw e (c.until_row.ensures (x l) (x r) (λ _. A (left e refl)) (λ _. B (right e refl)) few)

@@ -1,10 +1,7 @@
--- The loop goes from the first letter to the last: the row has the signal at what came before and at the first i letters.
-use Rattle.std.proofs.Common.{ℕ, ◌-◌, ◌≤◌, List, ◌++◌, length, take}
+-- The row has the signal at what came before and at the first letters.
+use Rattle.std.proofs.Common.{ℕ, List, ◌++◌, take}
 use Rattle.rows.specs.Inner.Rows.{SignalIn}
 use Rattle.rows.proofs.signal_after.Given as goal
 
-abbrev pub invariant-loop-i : goal.invariant-loop-i
-invariant-loop-i l = (l.i ≤ length l.s) × ((t : List ℕ) → SignalIn t l.k l.before → SignalIn (t ++ take l.i l.s) l.k l.w)
-
-abbrev pub decreases-loop-i : goal.decreases-loop-i
-decreases-loop-i l = length l.s - l.i
+abbrev pub invariant-loop-letter : goal.invariant-loop-letter
+invariant-loop-letter l = (t : List ℕ) → SignalIn t l.k l.before → SignalIn (t ++ take l.letter-index l.s) l.k l.w

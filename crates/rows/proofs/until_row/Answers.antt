@@ -1,18 +1,18 @@
 -- Once on a finite trace, twice on a loop.
-use Rattle.std.proofs.Common.{◌≡◌, ℕ, ◌-◌, ◌/◌, ◌%◌, ◌^◌, length, sym, ◌∙◌, subst, arith}
+use Rattle.std.proofs.Common.{◌≡◌, ℕ, ◌-◌, ◌/◌, ◌%◌, ◌^◌, length, subst, arith}
 use Rattle.logic.specs.Letter.{bit}
 use Rattle.rows.specs.Inner.Rows.{Swept}
 use Rattle.rows.proofs.UntilLaw.{tells-until_once, tells-until_twice}
 use Rattle.trace.specs.Limits.{most_letters}
 use Rattle.rows.proofs.until_row.Goals as goal
 
-pub returns-then-period-eq0 : goal.returns-then-period-eq0
-returns-then-period-eq0 c lead loop x y few e F G = let a = c.args in
-    tells-until_once lead loop few a.f a.g x y F G c.sweep-once.result (e ∙ c.if-period-eq0.true) c.sweep-once.ensures
+pub returns-in-None : goal.returns-in-None
+returns-in-None c x y F G few = let a = c.args in
+    tells-until_once a.trace.lead.now a.trace.cycle.now few a.f a.g x y (F few) (G few) c.sweep-once.result (omega (arith, c.in-None.ensures)) c.sweep-once.ensures
 
-pub returns-else-period-eq0 : goal.returns-else-period-eq0
-returns-else-period-eq0 c lead loop x y few e F G = let a = c.args in
+pub returns-in-Some : goal.returns-in-Some
+returns-in-Some c x y F G few = let a = c.args in
     let once = c.sweep-once in
-    let z : (a.period - 1) % most_letters ≡ length loop - 1 = omega arith in
-    tells-until_twice lead loop few a.f a.g x y F G once.result c.sweep.result (λ z. c.if-period-eq0.false (sym e ∙ z)) once.ensures
+    let z : c.in-Some.start % most_letters ≡ length a.trace.cycle.now - 1 = omega (arith, few.most, c.in-Some.ensures) in
+    tells-until_twice a.trace.lead.now a.trace.cycle.now few a.f a.g x y (F few) (G few) once.result c.sweep.result (λ e. omega (arith, c.in-Some.ensures)) once.ensures
     (subst (λ (n : ℕ). Swept a.f a.g (bit (once.result / 2 ^ n) 0) c.sweep.result) z c.sweep.ensures)

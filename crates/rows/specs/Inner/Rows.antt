@@ -1,10 +1,11 @@
 -- Rows: the truths of an LTL tree on a trace, in the bits of one number, a bit for each letter of the two lists, the last letter's the lowest.
-use Rattle.std.specs.Prelude.{◌≡◌, ℕ, suc, ◌+◌, ◌-◌, ◌%◌, ◌<◌, ◌≤◌, Bool, cond, ◌&&◌, ◌||◌, T, ◌↔◌, List, length, nat_lt, slice_index}
+use Rattle.std.specs.Prelude.{◌≡◌, ℕ, suc, ◌+◌, ◌-◌, ◌%◌, ◌<◌, ◌≤◌, Bool, cond, ◌&&◌, ◌||◌, T, ◌↔◌, List, length, nat_lt, slice_index, slice_index_or, Option, Some, None}
 use Rattle.logic.specs.Letter.{bit, signals}
 use Rattle.trace.specs.Limits.{most_letters}
+use Rattle.trace.specs.declared.TraceView.{TraceView}
 use Rattle.logic.specs.Trace.{letter_at, size, InTrace}
 use Rattle.table.specs.Node.{node, count}
-use Rattle.logic.specs.Tree.{Ltl, lvar}
+use Rattle.logic.specs.Tree.{Ltl}
 use Rattle.logic.specs.LtlMeaning.{LtlHolds}
 use Rattle.ltl.specs.Table.{tree_of_node, tree_at}
 use Rattle.ltl.specs.Check.{LeftOperand, RightOperand}
@@ -22,19 +23,17 @@ pub record FitsRow (lead loop : List ℕ) : Type 0 where
   pub some : 0 < size lead loop
   pub most : size lead loop ≤ most_letters
 
+-- Row w tells tree x on trace t, where a row has room for t: a premise, so that no function asks it of its callers.
+abbrev pub TellsOn : TraceView → ℕ → Ltl → Type 0
+TellsOn t w x = FitsRow t.lead.now t.cycle.now → Tells t.lead.now t.cycle.now w x
+
 -- Row w has signal k at each letter of a list, as far as there are bits: letter i has m letters after it.
 abbrev pub SignalIn : List ℕ → ℕ → ℕ → Type 0
 SignalIn s k w = (i m : ℕ) → i + m + 1 ≡ length s → m < most_letters → bit w m ≡ bit (slice_index s i) k
 
--- Word k of a list is the row of signal k, for each signal k of the letter `known`.
-pub record RowsKnown (lead loop : List ℕ) (known : ℕ) (rows : List ℕ) : Type 0 where
-  pub row : (k : ℕ) → k < signals → T (bit known k) → Tells lead loop (slice_index rows k) (lvar k)
-
--- Signal k is learnt, where the list has a word for each signal: r is what is known then.
-abbrev pub Learns : List ℕ → List ℕ → ℕ → ℕ → List ℕ → ℕ → List ℕ → Type 0
-Learns lead loop k known rows r rows' =
-    FitsRow lead loop → k < signals → signals ≤ length rows → RowsKnown lead loop known rows
-    → RowsKnown lead loop r rows' × T (bit r k) × ((j : ℕ) → T (bit known j) → T (bit r j))
+-- The row that stands at place k, if one does, has signal k at each letter of a list.
+pub record SignalsIn (s : List ℕ) (rows : List (Option ℕ)) : Type 0 where
+  pub row : (k w : ℕ) → k < signals → slice_index_or rows k None ≡ Some w → SignalIn s k w
 
 -- Until in one sweep from the last letter back: the second operand, or the first and the until that follows. The carry follows the last letter.
 pub record Swept (f g : ℕ) (carry : Bool) (r : ℕ) : Type 0 where

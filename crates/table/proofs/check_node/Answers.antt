@@ -1,11 +1,17 @@
 -- `check_node` answers for the kind, then for the places.
-use Rattle.table.proofs.PlaceLaw.{kind-refused, places-answer}
+use Rattle.std.proofs.Common.{◌≡◌, rules, Err}
+use Rattle.table.specs.Answer.{checked}
+use Rattle.table.specs.Node.{node}
+use Rattle.table.specs.Check.{node_refusal}
+use Rattle.table.proofs.PlaceLaw.{no_kind, by_places}
 use Rattle.table.proofs.check_node.Goals as goal
 
-pub returns-then-not-k-rules : goal.returns-then-not-k-rules
-returns-then-not-k-rules c R C = let a = c.args in
-    kind-refused C a.i.0 a.k a.l a.r a.lb a.rb c.if-not-k-rules.true
+pub returns-in_err-kind : goal.returns-in_err-kind
+returns-in_err-kind g c = let a = c.args in
+    let h : Err c.in_err-kind.field-0.0 ≡ checked (node_refusal g.K.Kind.rules a.i.0 (node a.n.kind a.n.left a.n.right) a.lb a.rb) =
+    no_kind g.K.Kind.rules g.K.Kind.number a.n.kind a.i.0 a.n.left a.n.right a.lb a.rb c.from_number.ensures c.in_err-kind.was in
+    search rules
 
 pub returns : goal.returns
-returns c R C = let a = c.args in
-    places-answer C a.i.0 a.k a.l a.r a.lb a.rb c.if-not-k-rules.false c.check_places.result c.check_places.ensures
+returns g c = let a = c.args in
+    by_places g.K.Kind.rules g.K.Kind.number a.n.kind a.i.0 a.n.left a.n.right a.lb a.rb c.from_number.ensures c.in_ok-kind.was c.places.ensures c.check_places.ensures

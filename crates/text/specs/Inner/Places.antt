@@ -1,11 +1,7 @@
 -- Places in a line of bytes, counted from 0: what stands there, and where nothing of a kind can stand any more. The inner readers promise
 -- their results in these terms.
-use Rattle.std.specs.Prelude.{◌≡◌, List, ◌++◌, ℕ, suc, ◌≤◌, length, get_or, take, drop}
+use Rattle.std.specs.Prelude.{◌≡◌, List, [], ◌∷◌, ◌++◌, ℕ, suc, ◌≤◌, length, take, drop}
 use Rattle.text.specs.Limits.{most_bytes}
-
--- The byte at a place, 256 past the end.
-abbrev pub byte_at : List ℕ → ℕ → ℕ
-byte_at s i = get_or s i 256
 
 -- A place in a line that is not too long, with no more nodes or letters than bytes before it.
 pub record CursorIn (s : List ℕ) (at n : ℕ) : Type 0 where
@@ -25,6 +21,10 @@ pub record Agree (n : ℕ) (s s' : List ℕ) : Type 0 where
 
 abbrev pub Language : Type 1
 Language = List ℕ → Type 0
+
+-- The one word of one byte.
+abbrev pub Only : ℕ → Language
+Only b w = w ≡ b ∷ []
 
 -- Some word of a language stands at the front.
 abbrev pub Begins : Language → Language

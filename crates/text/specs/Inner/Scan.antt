@@ -1,20 +1,39 @@
--- What the readers of digits, numbers and words promise.
-use Rattle.std.specs.Prelude.{◌≡◌, Bool, true, false, List, [], ◌∷◌, ℕ, ◌+◌, ◌≤◌, ◌<◌, length, drop}
+-- What the readers of bytes, words, digits and numbers promise.
+use Rattle.std.specs.Prelude.{◌≡◌, Bool, true, false, Option, Some, None, Result, Ok, Err, List, [], ◌∷◌, ℕ, ◌+◌, ◌≤◌, ◌<◌, length, drop}
 use Rattle.text.specs.Spelling.{digits}
-use Rattle.text.specs.Inner.Places.{Stands, Halts, Stops}
+use Rattle.text.specs.Inner.Places.{Stands, Halts, Stops, Only}
 use Rattle.text.specs.Inner.Number.{NoDigit, Numeral, Numbered}
-use Rattle.text.specs.declared.numbers.Number.{Number}
-use Rattle.text.specs.declared.numbers.Number.TheVariants.{Small, Large, FaultAt}
+use Rattle.text.specs.declared.scan.Fault.{Fault}
 
--- A digit, or 10 where there is none.
-pub record DigitRead (s : List ℕ) (at r : ℕ) : Type 0 where
-  pub is : r < 10 → Stands ((48 + r) ∷ []) s at (at + 1)
-  pub none : 10 ≤ r → NoDigit (drop at s)
+-- The byte b stands from `at` up to `next`; or the place stays, and b can't stand there.
+abbrev pub ByteRead : ℕ → List ℕ → ℕ → ℕ → Bool → Type 0
+ByteRead b s at next true = Stands (b ∷ []) s at next
+ByteRead b s at next false = (next ≡ at) × (at ≤ length s → Stops (Only b) s at at)
+
+-- A word stands whole up to `next`; or the place stays, and the word breaks off at the fault. Past the line's end nothing stands.
+pub record WordStands (w s : List ℕ) (at next : ℕ) : Type 0 where
+  pub ends : next ≡ at + length w
+  pub stands : at ≤ length s → Stands w s at next
+  pub past : length s < at → next ≡ at
+
+abbrev pub WordRead : List ℕ → List ℕ → ℕ → ℕ → Result Unit Fault → Type 0
+WordRead w s at next (Ok u) = WordStands w s at next
+WordRead w s at next (Err f) = (next ≡ at) × (at ≤ length s → Stops (λ v. v ≡ w) s at f.0) × (length s < at → f.0 ≡ at)
+
+-- The line is over; or it has a byte at the place, which is the fault.
+abbrev pub EndRead : List ℕ → ℕ → Result Unit Fault → Type 0
+EndRead s at (Ok u) = length s ≤ at
+EndRead s at (Err f) = (at < length s) × (f.0 ≡ at)
+
+-- The digit at a place, or that there is none.
+abbrev pub DigitRead : List ℕ → ℕ → Option ℕ → Type 0
+DigitRead s at (Some d) = (d < 10) × Stands ((48 + d) ∷ []) s at (at + 1)
+DigitRead s at None = NoDigit (drop at s)
 
 -- n is a value within the limit, or it is above.
-abbrev pub Counts : ℕ → ℕ → ℕ → Bool → Type 0
-Counts limit n v false = (n ≡ v) × (v ≤ limit)
-Counts limit n v true = limit < n
+abbrev pub Counts : ℕ → ℕ → Option ℕ → Type 0
+Counts limit n (Some v) = (n ≡ v) × (v ≤ limit)
+Counts limit n None = limit < n
 
 -- n stands from `at` up to `next`, and no digit follows it.
 pub record NumberStands (n : ℕ) (s : List ℕ) (at next : ℕ) : Type 0 where
@@ -22,14 +41,7 @@ pub record NumberStands (n : ℕ) (s : List ℕ) (at next : ℕ) : Type 0 where
   pub more : at < next
   pub ends : NoDigit (drop next s)
 
--- A number; or the place at which none can follow any more, which is `at` itself past the line's end.
-abbrev pub NumberRead : List ℕ → ℕ → ℕ → Number → Type 0
-NumberRead s at limit (Small v next) = (v ≤ limit) × NumberStands v s at next
-NumberRead s at limit (Large next) = (n : ℕ) × (limit < n) × NumberStands n s at next
-NumberRead s at limit (FaultAt p) = (at ≤ length s → Halts Numeral Numbered s at p) × (length s < at → p ≡ at)
-
--- A word stands whole, or up to r; past the line's end nothing stands.
-pub record WordRead (w s : List ℕ) (at r : ℕ) : Type 0 where
-  pub whole : at ≤ length s → r ≡ at + length w → Stands w s at r
-  pub part : at ≤ length s → (r ≡ at + length w → ⊥) → Stops (λ v. v ≡ w) s at r
-  pub past : length s < at → r ≡ at
+-- A number up to `next`; or the place stays, and the fault is the place at which none can follow any more, which is `at` itself past the line's end.
+abbrev pub NumberRead : List ℕ → ℕ → ℕ → ℕ → Result (Option ℕ) Fault → Type 0
+NumberRead s at limit next (Ok v) = (n : ℕ) × Counts limit n v × NumberStands n s at next
+NumberRead s at limit next (Err f) = (next ≡ at) × (at ≤ length s → Halts Numeral Numbered s at f.0) × (length s < at → f.0 ≡ at)

@@ -1,22 +1,16 @@
 -- Letters, and the end.
-use mathlib.Core.Path.{subst}
-use Rattle.trace_lines.specs.Inner.LettersReader.{LettersRead, further, Any}
-use Rattle.trace_lines.proofs.TraceLaw.{finite-no, finite_tail, finite-read}
+use Rattle.std.proofs.lemmas.Result.{err_from_is_err_and}
+use Rattle.trace_lines.proofs.TraceLaw.{finite-no, finite_tail}
 use Rattle.trace_lines.proofs.read_finite.Goals as goal
 
-pub returns-then-next-s : goal.returns-then-next-s
-returns-then-next-s c = let x = c.args in
-    let s = x.s.now in
-    let (xs, _, a) = subst (LettersRead further Any s x.at 0 x.lead.now c.read_further.new.out) c.in-Found.is c.read_further.ensures in
-    λ m. finite_tail a c.if-next-s.true
+pub returns-in_err-count : goal.returns-in_err-count
+returns-in_err-count c =
+    let p = err_from_is_err_and c.from_residual.result c.from_residual.ensures.1 in
+    λ m. rw (p.1, p.2) (finite-no c.in_err-count.ensures.read)
 
-pub returns-in-FaultAt : goal.returns-in-FaultAt
-returns-in-FaultAt c = let x = c.args in
-    let s = x.s.now in
-    λ m. finite-no (subst (LettersRead further Any s x.at 0 x.lead.now c.read_further.new.out) c.in-FaultAt.is c.read_further.ensures)
-
-pub returns-else-next-s : goal.returns-else-next-s
-returns-else-next-s c = let x = c.args in
-    let s = x.s.now in
-    let (xs, _, a) = subst (LettersRead further Any s x.at 0 x.lead.now c.read_further.new.out) c.in-Found.is c.read_further.ensures in
-    λ m. finite-read a c.if-next-s.false m
+pub returns-in_err-end : goal.returns-in_err-end
+returns-in_err-end c =
+    let a = c.in_ok-count.ensures.read in
+    let z = rw c.in_ok-count.ensures.line at c.in_err-end.ensures in
+    let p = err_from_is_err_and c.from_residual-in_err-end.result c.from_residual-in_err-end.ensures.1 in
+    λ m. rw (p.1, p.2, z.1) (finite_tail a.2 z.0)

@@ -1,60 +1,42 @@
 -- The loop keeps what was read so far; whatever the reader finds from there on it finds from the start on.
-use Rattle.std.proofs.Common.{rules}
+use Rattle.std.proofs.Common.{rules, ◌∙◌}
 use native.Mathlib.Omega.{arith}
-use mathlib.Core.Path.{refl, sym, subst, ◌∙◌}
-use Prim.Native.Nat.{◌+◌}
-use Rattle.trace_lines.specs.Inner.LettersReader.{LetterRead}
-use Rattle.text.proofs.PlaceLaw.{stands_one}
-use Rattle.trace_lines.proofs.LettersLaw.{none_yet, one_more, no_letter, no_end, letters_end}
+use Rattle.std.proofs.lemmas.Result.{err_from_is_err_and}
+use Rattle.trace_lines.proofs.LettersLaw.{one_more, no_letter, no_end, letters_end}
 use Rattle.trace_lines.proofs.read_further.Goals as goal
 
-pub loop-out-init : goal.loop-out-init
-loop-out-init c = (refl, none_yet c.requires.few c.requires.within)
+pub returns-in_err-count-clause-read : goal.returns-in_err-count-clause-read
+returns-in_err-count-clause-read c =
+    let inv = c.loop-cursor.invariant in
+    let o = rw inv.line at c.loop-cursor-test.ensures.read in
+    let a = rw (c.loop-cursor-test.ensures.line, inv.line) at c.in_err-count.ensures.read in
+    let p = err_from_is_err_and c.from_residual.result c.from_residual.ensures.1 in
+    rw (p.1, p.2) (inv.read.stops (no_letter o a))
 
-pub read_letter-requires : goal.read_letter-requires
-read_letter-requires c = let x = c.args in
-    let s = x.s.now in
-    let i = c.loop-out.i in
-    let inv = c.loop-out.invariant.1 in
-    let o = stands_one {s = s} 32 (sym c.byte.ensures.0 ∙ c.loop-out-test.true) (c.byte.ensures.1 (omega (arith, c.loop-out-test.true))) in
-    record { few = omega (arith, inv.few); within = o.within; short = c.requires.short }
+pub loop-cursor-preserved : goal.loop-cursor-preserved
+loop-cursor-preserved c =
+    let inv = c.loop-cursor.invariant in
+    let o = rw inv.line at c.loop-cursor-test.ensures.read in
+    let a = rw (c.loop-cursor-test.ensures.line, inv.line) at c.in_ok-count.ensures.read in
+    record {
+      line = c.in_ok-count.ensures.line ∙ c.loop-cursor-test.ensures.line ∙ inv.line;
+      size = search rules;
+      read = one_more inv.read o a.1 a.2;
+    }
 
-pub returns-in-FaultAt : goal.returns-in-FaultAt
-returns-in-FaultAt c = let x = c.args in
-    let s = x.s.now in
-    let i = c.loop-out.i in
-    let inv = c.loop-out.invariant.1 in
-    let o = stands_one {s = s} 32 (sym c.byte.ensures.0 ∙ c.loop-out-test.true) (c.byte.ensures.1 (omega (arith, c.loop-out-test.true))) in
-    inv.stops (no_letter o (subst (LetterRead s (i + 1) c.loop-out.count c.loop-out.out c.read_letter.new.out) c.in-FaultAt.is c.read_letter.ensures))
+pub returns-in_err-expect-clause-read : goal.returns-in_err-expect-clause-read
+returns-in_err-expect-clause-read c =
+    let inv = c.loop-cursor.invariant in
+    let z = rw inv.line at c.loop-cursor-test.ensures.read in
+    let a = rw (c.loop-cursor-test.ensures.line, inv.line) at c.in_err-expect.ensures.read in
+    let b = a.1 (omega (arith, z.0, inv.read.within)) in
+    let p = err_from_is_err_and c.from_residual-in_err-expect.result c.from_residual-in_err-expect.ensures.1 in
+    rw (p.1, p.2) (inv.read.stops (no_end (z.1 inv.read.within) (rw z.0 at b)))
 
-pub loop-out-smaller : goal.loop-out-smaller
-loop-out-smaller c = let x = c.args in
-    let s = x.s.now in
-    let i = c.loop-out.i in
-    let inv = c.loop-out.invariant.1 in
-    let o = stands_one {s = s} 32 (sym c.byte.ensures.0 ∙ c.loop-out-test.true) (c.byte.ensures.1 (omega (arith, c.loop-out-test.true))) in
-    let (v, a) = subst (LetterRead s (i + 1) c.loop-out.count c.loop-out.out c.read_letter.new.out) c.in-Found.is c.read_letter.ensures in
-    omega (arith, a.stands.more, a.stands.stands.within, inv.within)
-
-pub loop-out-preserved : goal.loop-out-preserved
-loop-out-preserved c = let x = c.args in
-    let s = x.s.now in
-    let i = c.loop-out.i in
-    let inv = c.loop-out.invariant.1 in
-    let o = stands_one {s = s} 32 (sym c.byte.ensures.0 ∙ c.loop-out-test.true) (c.byte.ensures.1 (omega (arith, c.loop-out-test.true))) in
-    let (v, a) = subst (LetterRead s (i + 1) c.loop-out.count c.loop-out.out c.read_letter.new.out) c.in-Found.is c.read_letter.ensures in
-    (search rules, one_more inv o a c.either-large.result c.either-large.ensures)
-
-pub returns-then-byte-ne41 : goal.returns-then-byte-ne41
-returns-then-byte-ne41 c = let x = c.args in
-    let s = x.s.now in
-    let i = c.loop-out.i in
-    let inv = c.loop-out.invariant.1 in
-    inv.stops (no_end inv.within (λ e. c.loop-out-test.false (c.byte.ensures.0 ∙ e)) (λ e. c.if-byte-ne41.true (c.byte-2.ensures.0 ∙ e)))
-
-pub returns : goal.returns
-returns c = let x = c.args in
-    let s = x.s.now in
-    let i = c.loop-out.i in
-    let inv = c.loop-out.invariant.1 in
-    letters_end inv (sym c.byte-2.ensures.0 ∙ c.if-byte-ne41.false) (c.byte-2.ensures.1 (omega (arith, c.if-byte-ne41.false)))
+pub returns-clause-read : goal.returns-clause-read
+returns-clause-read c =
+    let inv = c.loop-cursor.invariant in
+    let z = rw inv.line at c.loop-cursor-test.ensures.read in
+    let a = rw (c.loop-cursor-test.ensures.line, inv.line) at c.in_ok-expect.ensures.read in
+    let b = a.stands (omega (arith, z.0, inv.read.within)) in
+    letters_end c.loop-cursor.count inv.read (rw z.0 at b)

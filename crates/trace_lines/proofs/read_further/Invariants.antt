@@ -5,8 +5,12 @@ use lib.ListN.{length}
 use Rattle.trace_lines.proofs.LettersLaw.{SoFar}
 use Rattle.trace_lines.proofs.read_further.Given as goal
 
-abbrev pub invariant-loop-out : goal.invariant-loop-out
-invariant-loop-out l = (length l.out ≡ length l.initial.out) × SoFar l.s l.at l.n l.i l.count l.large l.initial.out l.out
+abbrev pub invariant-loop-cursor : goal.invariant-loop-cursor
+invariant-loop-cursor l = record {
+  line : l.cursor.line.now ≡ l.fn.cursor.line.now;
+  size : length l.out ≡ length l.fn.out;
+  read : SoFar l.fn.cursor.line.now l.fn.cursor.at l.cursor.at l.fn.count l.count l.fn.out l.out;
+}
 
-abbrev pub decreases-loop-out : goal.decreases-loop-out
-decreases-loop-out l = length l.s - l.i
+abbrev pub decreases-loop-cursor : goal.decreases-loop-cursor
+decreases-loop-cursor l = length l.fn.cursor.line.now - l.cursor.at

@@ -1,77 +1,43 @@
 -- Each refusal from the reading with no room; then the same reading fills the lent lists.
 use native.Mathlib.Omega.{arith}
-use mathlib.Core.Path.{subst}
-use mathlib.Core.List.{[], ◌∷◌}
-use Prim.Native.Nat.{◌≤◌}
-use lib.ListN.{length}
-use Rattle.text.specs.Limits.{most_bytes}
-use Rattle.trace_lines.specs.Inner.LettersReader.{ListsRead, whole_line}
-use Rattle.trace_lines.proofs.TraceLaw.{too_long, no-trace, large_letter_lem, many_letters, no-room-lead, no-room-loop, letters-read}
+use mathlib.Core.Path.{sym, ◌∙◌}
+use Rattle.std.proofs.lemmas.Result.{err_from_is_err_and}
+use Rattle.trace_lines.proofs.TraceLaw.{no-trace, large_refused, many_letters, no-room-lead, no-room-loop, letters-read}
 use Rattle.trace_lines.proofs.read_trace.Goals as goal
+use Rattle.trace_lines.proofs.read_trace.Goals.{then-lengths-gt-MOST_LETTERS-via-then-lengths-gt-MOST_LETTERS, then-lengths-gt-MOST_LETTERS-via-else-lengths-gt-MOST_LETTERS+then-lengths, then-lead-lengths-via-then-lead-lengths, then-lead-lengths-via-else-lead-lengths+then-cycle-lengths}
 
-pub returns-then-line-gt-MOST_BYTES : goal.returns-then-line-gt-MOST_BYTES
-returns-then-line-gt-MOST_BYTES c = let x = c.args in
-    too_long x.line.now x.lead.now x.cycle.now c.if-line-gt-MOST_BYTES.true
+pub returns-in_err-read_lists : goal.returns-in_err-read_lists
+returns-in_err-read_lists c =
+    let p = err_from_is_err_and c.from_residual.result c.from_residual.ensures.1 in
+    rw (p.1, p.2) (no-trace c.args.line.now c.args.lead.now c.args.cycle.now (omega arith) c.in_err-read_lists.ensures)
 
-pub returns-then-large : goal.returns-then-large
-returns-then-large c = let x = c.args in
-    let s = x.line.now in
-    let l = x.lead.now in
-    let m = x.cycle.now in
-    let short : length s ≤ most_bytes = omega (arith, c.if-line-gt-MOST_BYTES.false) in
-    let (lead, loop, e, dry) = subst (ListsRead whole_line s 0 (0 ∷ []) (0 ∷ []) c.read_lists.new.lead c.read_lists.new.cycle) c.in-Found.is c.read_lists.ensures in
-    large_letter_lem l m lead loop short e dry c.if-large.true
+pub returns-in_err-lengths : goal.returns-in_err-lengths
+returns-in_err-lengths c =
+    let p = err_from_is_err_and c.from_residual-in_err-lengths.result c.from_residual-in_err-lengths.ensures.1 in
+    rw (p.1, p.2) (large_refused c.args.lead.now c.args.cycle.now _ _ _ _ (omega arith) c.in_ok-read_lists.field-0 c.in_ok-read_lists.ensures (sym c.ok_or.ensures.value ∙ c.in_err-lengths.was))
 
-pub returns-then-a-gt-MOST_LETTERS : goal.returns-then-a-gt-MOST_LETTERS
-returns-then-a-gt-MOST_LETTERS c = let x = c.args in
-    let s = x.line.now in
-    let l = x.lead.now in
-    let m = x.cycle.now in
-    let short : length s ≤ most_bytes = omega (arith, c.if-line-gt-MOST_BYTES.false) in
-    let (lead, loop, e, dry) = subst (ListsRead whole_line s 0 (0 ∷ []) (0 ∷ []) c.read_lists.new.lead c.read_lists.new.cycle) c.in-Found.is c.read_lists.ensures in
-    many_letters l m lead loop short e dry c.if-large.false (omega (arith, c.if-a-gt-MOST_LETTERS.true))
+pub returns-then-lengths-gt-MOST_LETTERS : goal.returns-then-lengths-gt-MOST_LETTERS
+returns-then-lengths-gt-MOST_LETTERS c =
+    let r = rw c.in_ok-lengths.ensures.ok_part at c.in_ok-read_lists.ensures in
+    many_letters c.args.lead.now c.args.cycle.now r.0 r.1 (omega arith) r.2 c.in_ok-lengths.lengths (r.3.0, r.3.1, r.3.2)
+    (elim c.then-lengths-gt-MOST_LETTERS.branch [
+      | then-lengths-gt-MOST_LETTERS-via-then-lengths-gt-MOST_LETTERS w ↦ omega arith
+      | then-lengths-gt-MOST_LETTERS-via-else-lengths-gt-MOST_LETTERS+then-lengths w ↦ omega arith
+    ])
 
-pub returns-then-a-b : goal.returns-then-a-b
-returns-then-a-b c = let x = c.args in
-    let s = x.line.now in
-    let l = x.lead.now in
-    let m = x.cycle.now in
-    let short : length s ≤ most_bytes = omega (arith, c.if-line-gt-MOST_BYTES.false) in
-    let (lead, loop, e, dry) = subst (ListsRead whole_line s 0 (0 ∷ []) (0 ∷ []) c.read_lists.new.lead c.read_lists.new.cycle) c.in-Found.is c.read_lists.ensures in
-    many_letters l m lead loop short e dry c.if-large.false (omega (arith, c.if-a-gt-MOST_LETTERS.false, c.if-a-b.true))
+pub returns-then-lead-lengths : goal.returns-then-lead-lengths
+returns-then-lead-lengths c =
+    let r = rw c.in_ok-lengths.ensures.ok_part at c.in_ok-read_lists.ensures in
+    let l = c.args.lead.now in
+    let m = c.args.cycle.now in
+    let k = c.in_ok-lengths.lengths in
+    elim c.then-lead-lengths.branch [
+      | then-lead-lengths-via-then-lead-lengths w ↦ no-room-lead l m r.0 r.1 (omega arith) r.2 k (r.3.0, r.3.1, r.3.2) (omega arith) w.if-lead-lengths.true
+      | then-lead-lengths-via-else-lead-lengths+then-cycle-lengths w ↦ no-room-loop l m r.0 r.1 (omega arith) r.2 k (r.3.0, r.3.1, r.3.2) (omega arith) w.if-cycle-lengths.true
+    ]
 
-pub returns-then-lead-a : goal.returns-then-lead-a
-returns-then-lead-a c = let x = c.args in
-    let s = x.line.now in
-    let l = x.lead.now in
-    let m = x.cycle.now in
-    let short : length s ≤ most_bytes = omega (arith, c.if-line-gt-MOST_BYTES.false) in
-    let (lead, loop, e, dry) = subst (ListsRead whole_line s 0 (0 ∷ []) (0 ∷ []) c.read_lists.new.lead c.read_lists.new.cycle) c.in-Found.is c.read_lists.ensures in
-    no-room-lead l m lead loop short e dry c.if-large.false (omega (arith, c.if-a-gt-MOST_LETTERS.false, c.if-a-b.false)) c.if-lead-a.true
-
-pub returns-then-cycle-b : goal.returns-then-cycle-b
-returns-then-cycle-b c = let x = c.args in
-    let s = x.line.now in
-    let l = x.lead.now in
-    let m = x.cycle.now in
-    let short : length s ≤ most_bytes = omega (arith, c.if-line-gt-MOST_BYTES.false) in
-    let (lead, loop, e, dry) = subst (ListsRead whole_line s 0 (0 ∷ []) (0 ∷ []) c.read_lists.new.lead c.read_lists.new.cycle) c.in-Found.is c.read_lists.ensures in
-    no-room-loop l m lead loop short e dry c.if-large.false (omega (arith, c.if-a-gt-MOST_LETTERS.false, c.if-a-b.false)) c.if-cycle-b.true
-
-pub returns-in-FaultAt : goal.returns-in-FaultAt
-returns-in-FaultAt c = let x = c.args in
-    let s = x.line.now in
-    let l = x.lead.now in
-    let m = x.cycle.now in
-    let short : length s ≤ most_bytes = omega (arith, c.if-line-gt-MOST_BYTES.false) in
-    no-trace s l m short (subst (ListsRead whole_line s 0 (0 ∷ []) (0 ∷ []) c.read_lists.new.lead c.read_lists.new.cycle) c.in-FaultAt.is c.read_lists.ensures)
-
-pub returns-else-cycle-b : goal.returns-else-cycle-b
-returns-else-cycle-b c = let x = c.args in
-    let s = x.line.now in
-    let l = x.lead.now in
-    let m = x.cycle.now in
-    let short : length s ≤ most_bytes = omega (arith, c.if-line-gt-MOST_BYTES.false) in
-    let (lead, loop, e, dry) = subst (ListsRead whole_line s 0 (0 ∷ []) (0 ∷ []) c.read_lists.new.lead c.read_lists.new.cycle) c.in-Found.is c.read_lists.ensures in
-    letters-read l m lead loop short e dry c.if-large.false (omega (arith, c.if-a-gt-MOST_LETTERS.false, c.if-a-b.false)) (omega (arith, c.if-lead-a.false)) (omega (arith, c.if-cycle-b.false))
-    c.read_lists-in-Found.new.lead c.read_lists-in-Found.new.cycle c.read_lists-in-Found.result c.read_lists-in-Found.ensures
+pub returns : goal.returns
+returns c =
+    let r = rw c.in_ok-lengths.ensures.ok_part at c.in_ok-read_lists.ensures in
+    letters-read c.args.lead.now c.args.cycle.now r.0 r.1 (omega arith) r.2 c.in_ok-lengths.lengths (r.3.0, r.3.1, r.3.2) (omega arith) (omega arith) (omega arith)
+    c.read_lists-2.new.lead c.read_lists-2.new.cycle c.read_lists-2.result c.read_lists-2.ensures

@@ -1,57 +1,60 @@
 -- `translate::walk_boolean` meets its contract, by the number of its node: each arm stores what the walk of its Boolean appends.
 use Rattle.std.proofs.Common.{arith}
-use Rattle.psl.proofs.AcceptedLaw.{is-bnot, is-band}
-use Rattle.translate.proofs.StoredLaw.{room_within, boolean_in}
-use Rattle.translate.proofs.ArmLaw.{weight_bnot, weight_band, leaf_node, left-boolean, arm_bnot, arm_band}
+use Rattle.translate.proofs.StoredLaw.{room_part, room_after, walks_on}
+use Rattle.translate.proofs.ArmLaw.{weight_true, weight_var, weight_bnot, weight_band, true-at, var-at, bnot-at, band-at, arm_true, arm_var, arm_bnot, arm_band}
 use Rattle.translate.proofs.+walk_boolean.Goals as goal
 
--- true, var
-pub append-requires : goal.append-requires
-append-requires t c =
-    let P = c.requires in
-    let leaf = leaf_node c.args.t.now P.0 c.args.i.0 P.1 (omega arith) in
-    room_within P.3 (omega arith) (omega (arith, leaf.weight))
+-- true
+pub leaf-requires : goal.leaf-requires
+leaf-requires t c =
+    let f = true-at c.args.t c.args.i.0 c.requires.0 c.node-node.result c.node-node.ensures c.in-True.is in
+    room_part c.requires.2 (omega (arith, weight_true f))
 
-pub returns-then-kind-lt-BNOT : goal.returns-then-kind-lt-BNOT
-returns-then-kind-lt-BNOT t c =
-    let P = c.requires in
-    (leaf_node c.args.t.now P.0 c.args.i.0 P.1 (omega arith)).arm c.append.ensures
+pub returns-in-True : goal.returns-in-True
+returns-in-True t c = arm_true (true-at c.args.t c.args.i.0 c.requires.0 c.node-node.result c.node-node.ensures c.in-True.is) c.leaf.ensures
 
--- the left operand
-pub walk_boolean-x-requires : goal.walk_boolean-x-requires
-walk_boolean-x-requires t c =
-    let P = c.requires in
-    let b = left-boolean c.args.t.now P.0 c.args.i.0 P.1 (omega arith) (omega arith) in
-    (omega (arith, b.0), boolean_in c.args.t.now P.0 c.args.i.0 P.1 (room_within P.3 (omega arith) (omega (arith, b.1))) b.0)
+-- var
+pub leaf-requires-in-Var : goal.leaf-requires-in-Var
+leaf-requires-in-Var t c =
+    let f = var-at c.args.t c.args.i.0 c.requires.0 c.node-node.result c.node-node.ensures c.in-Var.is in
+    room_part c.requires.2 (omega (arith, weight_var f))
+
+pub returns-in-Var : goal.returns-in-Var
+returns-in-Var t c = arm_var (var-at c.args.t c.args.i.0 c.requires.0 c.node-node.result c.node-node.ensures c.in-Var.is) c.leaf-in-Var.ensures
 
 -- bnot
-pub append-requires-then-kind-eq-BNOT : goal.append-requires-then-kind-eq-BNOT
-append-requires-then-kind-eq-BNOT t c =
-    let P = c.requires in
-    let b = is-bnot c.args.t.now P.0 c.args.i.0 P.1 (omega arith) in
-    room_within P.3 (omega arith) (omega (arith, weight_bnot b.1, c.walk_boolean-x.ensures.last))
+pub walk_boolean-x-requires : goal.walk_boolean-x-requires
+walk_boolean-x-requires t c =
+    let f = bnot-at c.args.t c.args.i.0 c.requires.0 c.node-node.result c.node-node.ensures c.in-Bnot.is in
+    (omega (arith, f.0.0), (omega (arith, f.0.0), f.0.1, room_part c.requires.2 (omega (arith, weight_bnot f.1))))
 
-pub returns-then-kind-eq-BNOT : goal.returns-then-kind-eq-BNOT
-returns-then-kind-eq-BNOT t c =
-    let P = c.requires in
-    let b = is-bnot c.args.t.now P.0 c.args.i.0 P.1 (omega arith) in
-    arm_bnot b.1 c.walk_boolean-x.ensures c.append-then-kind-eq-BNOT.ensures
+pub unary-requires : goal.unary-requires
+unary-requires t c =
+    let f = bnot-at c.args.t c.args.i.0 c.requires.0 c.node-node.result c.node-node.ensures c.in-Bnot.is in
+    room_after c.requires.2 c.walk_boolean-x.ensures (omega (arith, weight_bnot f.1))
+
+pub returns-in-Bnot : goal.returns-in-Bnot
+returns-in-Bnot t c =
+    let f = bnot-at c.args.t c.args.i.0 c.requires.0 c.node-node.result c.node-node.ensures c.in-Bnot.is in
+    arm_bnot f.1 c.walk_boolean-x.ensures c.unary.ensures
 
 -- band
+pub walk_boolean-x-requires-in_default : goal.walk_boolean-x-requires-in_default
+walk_boolean-x-requires-in_default t c =
+    let f = band-at c.args.t c.args.i.0 c.requires.0 c.node-node.result c.node-node.ensures c.requires.1 c.in_default.not-True c.in_default.not-Var c.in_default.not-Bnot in
+    (omega (arith, f.0.0), (omega (arith, f.0.0), f.0.1, room_part c.requires.2 (omega (arith, weight_band f.2))))
+
 pub walk_boolean-y-requires : goal.walk_boolean-y-requires
 walk_boolean-y-requires t c =
-    let P = c.requires in
-    let b = is-band c.args.t.now P.0 c.args.i.0 P.1 (omega arith) in
-    (omega (arith, b.1), boolean_in c.args.t.now P.0 c.args.i.0 P.1 (room_within P.3 (omega arith) (omega (arith, weight_band b.2, c.walk_boolean-x.ensures.last))) b.1)
+    let f = band-at c.args.t c.args.i.0 c.requires.0 c.node-node.result c.node-node.ensures c.requires.1 c.in_default.not-True c.in_default.not-Var c.in_default.not-Bnot in
+    (omega (arith, f.1.0), (omega (arith, f.1.0), f.1.1, room_after c.requires.2 c.walk_boolean-x-in_default.ensures (omega (arith, weight_band f.2))))
 
-pub append-requires-2 : goal.append-requires-2
-append-requires-2 t c =
-    let P = c.requires in
-    let b = is-band c.args.t.now P.0 c.args.i.0 P.1 (omega arith) in
-    room_within P.3 (omega arith) (omega (arith, weight_band b.2, c.walk_boolean-x.ensures.last, c.walk_boolean-y.ensures.last))
+pub binary-requires : goal.binary-requires
+binary-requires t c =
+    let f = band-at c.args.t c.args.i.0 c.requires.0 c.node-node.result c.node-node.ensures c.requires.1 c.in_default.not-True c.in_default.not-Var c.in_default.not-Bnot in
+    room_after c.requires.2 (walks_on c.walk_boolean-x-in_default.ensures c.walk_boolean-y.ensures) (omega (arith, weight_band f.2))
 
-pub returns : goal.returns
-returns t c =
-    let P = c.requires in
-    let b = is-band c.args.t.now P.0 c.args.i.0 P.1 (omega arith) in
-    arm_band b.2 c.walk_boolean-x.ensures c.walk_boolean-y.ensures c.append-2.ensures
+pub returns-in_default : goal.returns-in_default
+returns-in_default t c =
+    let f = band-at c.args.t c.args.i.0 c.requires.0 c.node-node.result c.node-node.ensures c.requires.1 c.in_default.not-True c.in_default.not-Var c.in_default.not-Bnot in
+    arm_band f.2 c.walk_boolean-x-in_default.ensures c.walk_boolean-y.ensures c.binary.ensures

@@ -1,10 +1,6 @@
 -- `translate::emitted_size` meets its contract: the kinds' numbers, added up over the table, are the formula's (the tree theorem).
-use Prim.Native.Nat.{◌-◌}
 use Rattle.translate.proofs.DeliversLaw.{SizeSoFar}
 use Rattle.translate.proofs.emitted_size.Given as goal
 
 abbrev pub invariant-loop-i : goal.invariant-loop-i
-invariant-loop-i l = SizeSoFar l.t l.n l.s l.i
-
-abbrev pub decreases-loop-i : goal.decreases-loop-i
-decreases-loop-i l = l.n - l.i
+invariant-loop-i l = SizeSoFar l.t.numbers.now l.i-end l.s l.i

@@ -3,5 +3,4 @@ use Rattle.translate.proofs.StoredLaw.{walks_on}
 use Rattle.translate.proofs.literal.Goals as goal
 
 pub returns : goal.returns
-returns c =
-    walks_on c.walk_boolean-x.ensures c.gate.ensures
+returns c = walks_on c.walk_boolean-x.ensures c.gate.ensures

@@ -1,7 +1,0 @@
--- `brancadol::verdict_code` meets its contract, case by case.
-use mathlib.Core.Path.{sym, ap, ◌∙◌}
-use Rattle.brancadol.specs.Coded.{verdict_code}
-use Rattle.brancadol.proofs.verdict_code.Goals as goal
-
-pub returns-in-Refused : goal.returns-in-Refused
-returns-in-Refused c = c.refusal_code.ensures ∙ sym (ap verdict_code c.in-Refused.is)

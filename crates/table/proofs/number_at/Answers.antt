@@ -1,7 +1,0 @@
--- `number_at` reads a number: past the end of the list both are 0.
-use mathlib.Core.Path.{sym}
-use lib.ListN.{get_or-eq_default}
-use Rattle.table.proofs.number_at.Goals as goal
-
-pub returns-else-at-t : goal.returns-else-at-t
-returns-else-at-t c = sym (get_or-eq_default c.args.t.now 0 c.if-at-t.false)
