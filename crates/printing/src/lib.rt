@@ -1,4 +1,4 @@
-// The text of a run's answers, put into a vector of bytes.
+// The text of a run's answers, put into a vector of bytes: by functions and not by Display, of whose text no contract can speak.
 #![tactic(auto)]
 
 ghost use Rattle.std.specs.Prelude.{◌≡◌, ◌++◌, take};

@@ -20,7 +20,7 @@ use rows::{ALWAYS, Row, SignalRows};
 use table::NodeNo;
 use trace::{MOST_LETTERS, Refusal, TraceView, Verdict};
 
-// The row of a Boolean.
+// The row of a Boolean. These recursions stand beside those of the translator: their values are rows or truths and not nodes, and one fold with a closure for each kind is no plainer.
 fn boolean_row(t: PslTable<'_>, i: NodeNo, signals: &mut SignalRows<'_>) -> Row
     requires { (i.0 < count t.numbers.now) × (kind_at t.numbers.now i.0 < boolean_kinds) }
     ensures same_trace { signals.new.trace ≡ signals.old.trace }
@@ -86,7 +86,7 @@ fn on_empty(t: PslTable<'_>, i: NodeNo) -> bool
     }
 }
 
-// Whether an accepted table holds on a trace: the translation's row, with nothing accepted or rejected yet.
+// Whether an accepted table holds on a trace: the translation's row, with nothing accepted or rejected yet. It shares no step with ltl_holds, which makes the row of every node.
 fn psl_holds(t: PslTable<'_>, trace: TraceView<'_>) -> bool
     requires { size trace.lead.now trace.cycle.now ≤ most_letters }
     ensures { HoldsOn (formula_of t.entry.numbers.now) trace.entry.lead.now trace.entry.cycle.now ↔ T result }

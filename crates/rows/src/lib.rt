@@ -1,7 +1,8 @@
 // Rows: the truths of an LTL tree at all moments of a trace, in one word. not, and, or are one operation of the machine; RowLaw has what they tell.
 #![tactic(auto)]
 
-ghost use Rattle.std.specs.Prelude.{◌≡◌, ℕ, ◌<◌, ◌≤◌, T, ◌↔◌, List, ◌++◌, ◌≢◌};
+ghost use Rattle.std.specs.Prelude.{length, ◌≡◌, ℕ, ◌<◌, ◌≤◌, T, ◌↔◌, List, ◌++◌, ◌≢◌};
+ghost use Rattle.logic.specs.Trace.{size};
 ghost use Rattle.logic.specs.Letter.{bit, signals};
 ghost use Rattle.logic.specs.Tree.{Ltl, lvar, lnot, land, lor, lnext, luntil};
 ghost use Rattle.logic.specs.LtlMeaning.{LtlHoldsOn};
@@ -89,9 +90,9 @@ pub fn gate(a: Row, b: Row, r: Row) -> Row
     a | (b & !r)
 }
 
-// The row of next: each bit from the one below it, and on a loop the lowest from the loop's first letter.
+// The row of next, on every trace with a loop of that length: each bit from the one below it, and on a loop the lowest from the loop's first letter.
 pub fn next_row(a: Row, trace: TraceView<'_>) -> Row
-    ensures { (x : Ltl) → TellsOn trace.entry a x → TellsOn trace.entry result (lnext x) }
+    ensures { (t : TraceView) (x : Ltl) → length t.cycle.now ≡ length trace.entry.cycle.now → TellsOn t a x → TellsOn t result (lnext x) }
 {
     match trace.cycle.len().checked_sub(1) {
         None => a << 1,
@@ -108,9 +109,9 @@ fn sweep(f: Row, g: Row, carry: Row) -> Row
     g | (f & !sum)
 }
 
-// The row of until: from no, and on a loop again from what that says of the loop's start.
+// The row of until, on every trace with a loop of that length: from no, and on a loop again from what that says of the loop's start.
 pub fn until_row(f: Row, g: Row, trace: TraceView<'_>) -> Row
-    ensures { (x y : Ltl) → TellsOn trace.entry f x → TellsOn trace.entry g y → TellsOn trace.entry result (luntil x y) }
+    ensures { (t : TraceView) (x y : Ltl) → length t.cycle.now ≡ length trace.entry.cycle.now → TellsOn t f x → TellsOn t g y → TellsOn t result (luntil x y) }
 {
     let once = sweep(f, g, 0);
     match trace.cycle.len().checked_sub(1) {
@@ -121,8 +122,8 @@ pub fn until_row(f: Row, g: Row, trace: TraceView<'_>) -> Row
 
 // The row of an LTL node of a kind that is not a signal's, by its operands' rows a and b.
 pub fn node_row(kind: Kind, a: Row, b: Row, trace: TraceView<'_>) -> Row
-    ensures { (l : ℕ) → FitsRow trace.entry.lead.now trace.entry.cycle.now → (kind ≢ Var)
-        → TellsNode trace.entry.lead.now trace.entry.cycle.now (number kind) l a b result }
+    ensures { (t : TraceView) (l : ℕ) → length t.cycle.now ≡ length trace.entry.cycle.now → FitsRow t.lead.now t.cycle.now → (kind ≢ Var)
+        → TellsNode t.lead.now t.cycle.now (number kind) l a b result }
 {
     match kind {
         Kind::True | Kind::Var => ALWAYS,
@@ -136,8 +137,8 @@ pub fn node_row(kind: Kind, a: Row, b: Row, trace: TraceView<'_>) -> Row
 
 // Whether a tree holds on a trace, by its row: its truth at moment 0.
 pub fn holds_first(w: Row, trace: TraceView<'_>) -> bool
-    ensures { (x : Ltl) → FitsRow trace.entry.lead.now trace.entry.cycle.now → TellsOn trace.entry w x
-        → LtlHoldsOn x trace.entry.lead.now trace.entry.cycle.now ↔ T result }
+    ensures { (t : TraceView) (x : Ltl) → size t.lead.now t.cycle.now ≡ size trace.entry.lead.now trace.entry.cycle.now → FitsRow t.lead.now t.cycle.now → TellsOn t w x
+        → LtlHoldsOn x t.lead.now t.cycle.now ↔ T result }
 {
     (w >> (trace.size().wrapping_sub(1) % MOST_LETTERS)) & 1 == 1
 }

@@ -127,9 +127,9 @@ abbrev pub Accepts : List ℕ → Run → Result (Unit {0}) NotTaken → Type 0
 Accepts block s (Ok u) = Ready block s
 Accepts block s (Err x) = Ready block s → ⊥
 
--- A block is taken where it can be; else the run is left as it was.
+-- A block is taken exactly where it can be; else the run is left as it was.
 abbrev pub Taken : List ℕ → Run → Run → Result (Unit {0}) NotTaken → Type 0
-Taken block s r (Ok u) = Advanced block s r (gathered r)
+Taken block s r (Ok u) = Ready block s × Advanced block s r (gathered r)
 Taken block s r (Err x) = (Ready block s → ⊥) × (r ≡ s)
 
 -- Turns from the start on: the blocks that were taken, one after another, and the bytes that each printed.

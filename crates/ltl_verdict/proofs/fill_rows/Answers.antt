@@ -75,6 +75,6 @@ loop-i-preserved c = let t = c.args.t.numbers.now in
             first = rw w.told-is (
                 more t W i (number n.kind) w.from.result w.from-in_default.result w.node_row.result fine h room
                 N.0 (w.from.ensures ∙ N.1) (w.from-in_default.ensures ∙ N.2)
-                (w.node_row.ensures w.from.result few w.in_default.not-Var) I.first);
+                (w.node_row.ensures c.args.trace w.from.result refl few w.in_default.not-Var) I.first);
           }
     ]

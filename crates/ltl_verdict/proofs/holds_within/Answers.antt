@@ -1,5 +1,5 @@
 -- The root's row, at moment 0.
-use Rattle.std.proofs.Common.{arith}
+use Rattle.std.proofs.Common.{refl, arith}
 use Rattle.ltl.specs.Table.{tree_of}
 use Rattle.ltl.proofs.AcceptedLaw.{some-node}
 use Rattle.rows.proofs.TableLaw.{rows_root}
@@ -10,4 +10,4 @@ bounds-told-from g c = omega (arith, c.from.ensures, c.root.ensures, some-node c
 
 pub returns : goal.returns
 returns g c = let t = c.args.t.numbers.now in
-    c.holds_first.ensures (tree_of t) c.requires.0 (λ _. rw (c.from.ensures, c.root.ensures) (rows_root t _ (some-node t c.args.t.accepted) c.fill_rows.ensures))
+    c.holds_first.ensures c.args.trace (tree_of t) refl c.requires.0 (λ _. rw (c.from.ensures, c.root.ensures) (rows_root t _ (some-node t c.args.t.accepted) c.fill_rows.ensures))

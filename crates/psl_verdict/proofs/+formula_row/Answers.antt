@@ -1,5 +1,6 @@
 -- Each arm tells the translation of its formula.
-use Rattle.std.proofs.Common.{inl, inr, arith}
+use Rattle.std.proofs.Common.{inl, inr, arith, ap, sym, ◌∙◌, length}
+use Rattle.trace.specs.declared.TraceView.{TraceView}
 use Rattle.psl.proofs.AcceptedLaw.{is_weak, is_strong, is-not, is-and, is-next, is-until, is-abort}
 use Rattle.rows.proofs.RowLaw.{tells-not, tells-and}
 use Rattle.psl_verdict.proofs.ArmLaw.{is, boolean_operand, formula_operand}
@@ -85,17 +86,16 @@ returns-in-And-clause-tells t c x y m few = let N = c.node-node.ensures in
 pub returns-in-Next-clause-tells : goal.returns-in-Next-clause-tells
 returns-in-Next-clause-tells t c x y m few = let N = c.node-node.ensures in
     let A = c.formula_row-x.ensures in
-    let X = rw A.same_trace at c.next_row.ensures in
     rw ((is-next c.args.t.numbers.now c.args.t.accepted c.args.i.0 c.requires.0 (is N.0 c.in-Next.is)).1, ← N.1)
-    (c.gate-in-Next.ensures c.args.signals.now.trace x _ y m.accept (X _ (A.tells x y m)) m.reject few)
+    (c.gate-in-Next.ensures c.args.signals.now.trace x _ y m.accept (c.next_row.ensures c.args.signals.now.trace _ (ap (λ (z : TraceView). length z.cycle.now) (sym A.same_trace)) (A.tells x y m)) m.reject few)
 
 pub returns-in-Until-clause-tells : goal.returns-in-Until-clause-tells
 returns-in-Until-clause-tells t c x y m few = let N = c.node-node.ensures in
     let A = c.formula_row-x-in-Until.ensures in
     let B = rw A.same_trace at c.formula_row-y.ensures.tells in
-    let U = rw (c.formula_row-y.ensures.same_trace, A.same_trace) at c.until_row.ensures in
+    let same = c.formula_row-y.ensures.same_trace ∙ A.same_trace in
     rw ((is-until c.args.t.numbers.now c.args.t.accepted c.args.i.0 c.requires.0 (is N.0 c.in-Until.is)).2, ← N.1, ← N.2)
-    (U _ _ (A.tells x y m) (B x y m) few)
+    (c.until_row.ensures c.args.signals.now.trace _ _ (ap (λ (z : TraceView). length z.cycle.now) (sym same)) (A.tells x y m) (B x y m) few)
 
 pub returns-in-Abort-clause-tells : goal.returns-in-Abort-clause-tells
 returns-in-Abort-clause-tells t c x y m few = let N = c.node-node.ensures in

@@ -1,5 +1,5 @@
 -- On the empty trace by the formula's shape, else by the translation's row at moment 0.
-use Rattle.std.proofs.Common.{◌≡◌, ℕ, ◌-◌, ◌≤◌, ◌<◌, List, arith}
+use Rattle.std.proofs.Common.{refl, ◌≡◌, ℕ, ◌-◌, ◌≤◌, ◌<◌, List, arith}
 use mathlib.Core.Option.{none}
 use Rattle.table.specs.Node.{count, kind_at}
 use Rattle.psl.specs.Inner.Parts.{formula_at}
@@ -33,4 +33,4 @@ returns c =
     let F = rw (c.new-signals.ensures, c.root-root.ensures) at c.formula_row.ensures.tells in
     let row = F falsum falsum (record { accept = tells-false; reject = tells-false }) in
     holds-some t z.lead.now z.cycle.now c.holds_first.result few
-    (c.holds_first.ensures (translated (formula_at t (count t - 1)) falsum falsum) few row)
+    (c.holds_first.ensures z (translated (formula_at t (count t - 1)) falsum falsum) refl few row)

@@ -9,10 +9,10 @@ use Rattle.trace.specs.Limits.{most_letters}
 use Rattle.rows.proofs.holds_first.Goals as goal
 
 pub returns : goal.returns
-returns c x few W = let w = c.args.w in
-    let lead = c.args.trace.lead.now in
-    let loop = c.args.trace.cycle.now in
+returns c t x p few W = let w = c.args.w in
+    let lead = t.lead.now in
+    let loop = t.cycle.now in
     let k = (c.size.result + (2 ^ 64 - 1)) % 2 ^ 64 % most_letters in
-    let z : size lead loop - 1 ≡ k = omega (arith, c.size.ensures, few.some, few.most) in
+    let z : size lead loop - 1 ≡ k = omega (arith, p, c.size.ensures, few.some, few.most) in
     subst (λ (b : Bool). LtlHoldsOn x lead loop ↔ T b) (sym (test_first (w / 2 ^ k) ∙ bit_brought w k))
     (subst (λ (m : ℕ). LtlHoldsOn x lead loop ↔ T (bit w m)) z (tells_first few (W few)))

@@ -5,10 +5,10 @@ use Rattle.trace.specs.Limits.{most_letters}
 use Rattle.rows.proofs.next_row.Goals as goal
 
 pub returns-in-None : goal.returns-in-None
-returns-in-None c x A few = let n = length c.args.trace.cycle.now in
-    tells-next few (shifted_ended n c.args.a (omega (arith, c.in-None.ensures))) (A few)
+returns-in-None c t x p A few = let n = length t.cycle.now in
+    tells-next few (shifted_ended n c.args.a (omega (arith, p, c.in-None.ensures))) (A few)
 
 pub returns-in-Some : goal.returns-in-Some
-returns-in-Some c x A few = let n = length c.args.trace.cycle.now in
-    let z : c.in-Some.start % most_letters ≡ n - 1 = omega (arith, few.most, c.in-Some.ensures) in
-    tells-next few (rw z (shifted_looped n c.args.a (λ e. omega (arith, c.in-Some.ensures)))) (A few)
+returns-in-Some c t x p A few = let n = length t.cycle.now in
+    let z : c.in-Some.start % most_letters ≡ n - 1 = omega (arith, p, few.most, c.in-Some.ensures) in
+    tells-next few (rw z (shifted_looped n c.args.a (λ e. omega (arith, p, c.in-Some.ensures)))) (A few)

@@ -15,25 +15,25 @@ right e = subst (λ (k : Kind). RightOperand (number k)) (sym e)
 
 pub returns-in-True : goal.returns-in-True
 unfolding tree_of_node
-returns-in-True c l few n x r A B = elim c.in-True.is [ inl e ↦ rw e (tells-true few) | inr e ↦ absurd (n e) ]
+returns-in-True c t l p few n x r A B = elim c.in-True.is [ inl e ↦ rw e (tells-true few) | inr e ↦ absurd (n e) ]
 
 pub returns-in-Not : goal.returns-in-Not
 unfolding tree_of_node
-returns-in-Not c l few n x r A B = let e = c.in-Not.is in rw e (tells-not few c.ranges.a.fits (A (left e refl)))
+returns-in-Not c t l p few n x r A B = let e = c.in-Not.is in rw e (tells-not few c.ranges.a.fits (A (left e refl)))
 
 pub returns-in-And : goal.returns-in-And
 unfolding tree_of_node
-returns-in-And c l few n x r A B = let e = c.in-And.is in rw e (tells-and few (A (left e refl)) (B (right e refl)))
+returns-in-And c t l p few n x r A B = let e = c.in-And.is in rw e (tells-and few (A (left e refl)) (B (right e refl)))
 
 pub returns-in-Or : goal.returns-in-Or
 unfolding tree_of_node
-returns-in-Or c l few n x r A B = let e = c.in-Or.is in rw e (tells-or few (A (left e refl)) (B (right e refl)))
+returns-in-Or c t l p few n x r A B = let e = c.in-Or.is in rw e (tells-or few (A (left e refl)) (B (right e refl)))
 
 pub returns-in-Next : goal.returns-in-Next
 unfolding tree_of_node
-returns-in-Next c l few n x r A B = let e = c.in-Next.is in rw e (c.next_row.ensures (x l) (λ _. A (left e refl)) few)
+returns-in-Next c t l p few n x r A B = let e = c.in-Next.is in rw e (c.next_row.ensures t (x l) p (λ _. A (left e refl)) few)
 
 pub returns-in-Until : goal.returns-in-Until
 unfolding tree_of_node
-returns-in-Until c l few n x r A B = let e = c.in-Until.is in
-    rw e (c.until_row.ensures (x l) (x r) (λ _. A (left e refl)) (λ _. B (right e refl)) few)
+returns-in-Until c t l p few n x r A B = let e = c.in-Until.is in
+    rw e (c.until_row.ensures t (x l) (x r) p (λ _. A (left e refl)) (λ _. B (right e refl)) few)
