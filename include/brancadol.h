@@ -3,7 +3,7 @@
  * Each function below is proved to answer what its contract says, for every
  * input, refused ones too: crates/brancadol/src/lib.rt has the contracts.
  * The library keeps no state, asks for no memory and calls nothing but memset,
- * memcpy and memmove, so threads may call it at the same time. It needs stack, which the proofs do
+ * so threads may call it at the same time. It needs stack, which the proofs do
  * not count: some 0.9 MB were measured for the deepest line that
  * brancadol_read_formula refuses, 0.3 MB for the deepest that it takes, and less
  * than that for all else. Link with -lbrancadol; x86-64 Linux.

@@ -2,7 +2,7 @@
 use Rattle.std.specs.Prelude.{Bool, true, false, Result, Ok, Err}
 use Rattle.trace.specs.declared.refusal.Refusal.TheVariants.{EmptyTrace, ListRoom}
 use mathlib.Core.Path.{◌≡◌, refl, ap, sym, subst, ◌∙◌}
-use mathlib.Core.Option.{Option, none, some}
+use mathlib.Core.Option.{Option, none, some, some-ne-none}
 use mathlib.Core.List.{List}
 use Prim.Native.Nat.{ℕ, ◌*◌, ◌≤◌}
 use native.Mathlib.Omega.{arith}
@@ -16,7 +16,7 @@ use Rattle.trace.specs.Refusal.{unless}
 use Rattle.trace.specs.Verdict.{Judges}
 use Rattle.table.specs.Node.{numbers_of}
 use Rattle.table.proofs.NodeLaw.{length-numbers}
-use Rattle.table.proofs.CheckLaw.{some-none, or-none, unless-none}
+use Rattle.table.proofs.CheckLaw.{or-none, unless-none}
 use Rattle.logic.specs.Formula.{Formula}
 use Rattle.logic.specs.Meaning.{HoldsOn}
 use Rattle.psl.specs.Table.{formula_of}
@@ -118,11 +118,11 @@ module _ (line l m : List ℕ) where
 tells : {o : Option Refusal} (A : Type 0) (v : Result Bool Refusal) → o ≡ none → Judges o A v → VerdictOn A v
 tells A (Ok true) e (_, h) = h
 tells A (Ok false) e (_, h) = h
-tells A (Err x) e h = absurd (some-none (sym h ∙ e))
+tells A (Err x) e h = absurd (some-ne-none _ (sym h ∙ e))
 
 refused_by : {o : Option Refusal} (A : Type 0) (v : Result Bool Refusal) (x : Refusal) → o ≡ some x → Judges o A v → v ≡ Err x
-refused_by A (Ok true) x e (h, _) = absurd (some-none (sym e ∙ h))
-refused_by A (Ok false) x e (h, _) = absurd (some-none (sym e ∙ h))
+refused_by A (Ok true) x e (h, _) = absurd (some-ne-none _ (sym e ∙ h))
+refused_by A (Ok false) x e (h, _) = absurd (some-ne-none _ (sym e ∙ h))
 refused_by A (Err y) x e h = let q = sym h ∙ e in cc
 
 -- Lists with room for a trace that is not too long.

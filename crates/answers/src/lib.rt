@@ -1,11 +1,11 @@
 // What a run answers to its lines: the first is a formula, each later one a trace.
 #![tactic(auto)]
 
-ghost use Rattle.std.specs.Prelude.{◌≡◌, ◌-◌, ◌++◌, take};
+ghost use Rattle.std.specs.Prelude.{◌-◌};
 ghost use Rattle.answers.specs.Answer.{later_text};
 
-use arrayvec::ArrayVec;
 use printing::{put_refused, put_trace};
+use text::put::Sink;
 use trace::{Refusal, Verdict};
 
 // Both verdicts on a trace.
@@ -15,13 +15,9 @@ pub struct Verdicts {
     pub ltl: Verdict,
 }
 
-// The text of the answer to a line above 1: the second line is the first trace line.
-pub fn put_later<const N: usize>(
-    out: &mut ArrayVec<u8, N>,
-    number: u64,
-    answer: Result<Verdicts, Refusal>,
-)
-    ensures { out.new.items ≡ take N (out.old.items ++ later_text (number - 1) answer) }
+// The text of the answer to a line above 1: the second line is the first trace line. By functions, as `text::put` says.
+pub fn put_later<S: Sink>(out: &mut S, number: u64, answer: Result<Verdicts, Refusal>)
+    ensures { S.Put out.old (later_text (number - 1) answer) out.new }
 {
     let trace = number.saturating_sub(1);
     match answer {

@@ -13,7 +13,7 @@ use std::alloc::{AllocError, Global};
 use std::fmt::Display;
 use std::io;
 use std::io::Write;
-use table::{Node, NodeNo};
+use table::{Node, NodeNo, nodes_of};
 use trace::{Moment, Refusal, TraceView};
 use trace_lines::read_trace;
 use translate::translate;
@@ -65,26 +65,26 @@ fn write_list(list: &[impl Display + Copy], out: &mut impl Write) -> io::Result<
 }
 
 // A node's line without its byte 10, or why there is none. As many bytes are lent for it as the room allows.
-fn write_line(no: NodeNo, node: &[u16; 3], room: usize, out: &mut impl Write) -> io::Result<()> {
-    let [kind, left, right] = *node;
+fn write_line(no: NodeNo, node: Node<u16>, room: usize, out: &mut impl Write) -> io::Result<()> {
     let mut line = [0u8; 64];
     let n = room.min(line.len());
-    match write_node(no, Node { kind, left, right }, &mut line[..n]) {
+    match write_node(no, node, &mut line[..n]) {
         Ok(length) => out.write_all(line[..length].trim_ascii_end()),
         Err(x) => write!(out, "{}", Fault::Refused(x)),
     }
 }
 
-// Each node of a table, a line each.
+// Each node of a table, a line each. As one function with `write_list` the two would be a separator and a closure each.
 fn write_lines(table: &[u16], room: usize, out: &mut impl Write) -> io::Result<()> {
-    let (nodes, _) = table.as_chunks::<3>();
-    let Some((first, others)) = nodes.split_first() else {
+    let nodes = nodes_of(table);
+    if nodes.is_empty() {
         return write!(out, "none");
-    };
-    write_line(NodeNo(0), first, room, out)?;
-    for (no, node) in (1..u16::MAX).zip(others) {
-        out.write_all(b"\n")?;
-        write_line(NodeNo(no), node, room, out)?;
+    }
+    for (i, node) in nodes.iter().enumerate() {
+        if 0 < i {
+            out.write_all(b"\n")?;
+        }
+        write_line(NodeNo::from_index(i), Node::from(*node), room, out)?;
     }
     Ok(())
 }
@@ -213,7 +213,7 @@ impl Kept {
             Request::LtlVerdict => self.write_verdict(ltl_verdict, self.ltl.used(), out),
             Request::Letter(m) => self.write_letter(m, out),
             Request::Rest(m) => self.write_rest(m, out),
-            Request::Node(no, node) => Ok(write_line(no, &node, room, out)?),
+            Request::Node(no, node) => Ok(write_line(no, node, room, out)?),
             Request::Nodes => Ok(write_lines(self.ltl.used(), room, out)?),
             Request::ShowPsl(places) => show(&self.psl, places, out),
             Request::ShowLtl(places) => show(&self.ltl, places, out),

@@ -17,7 +17,8 @@ use std::process::ExitCode;
 // The most bytes of a line, its byte 10 included. Longer ones are not kept: an input may be one line without end.
 const LINE_ROOM: usize = 65537;
 
-// The next line into `line`, its byte 10 included; nothing at the input's end. A line that is too long is taken as empty, which is no request.
+// The next line into `line`, its byte 10 included; nothing at the input's end. A line that is too long is taken as empty, which is no request: as
+// a case of its own it would have the same answer.
 fn read_line(input: &mut impl BufRead, line: &mut Vec<u8>) -> io::Result<()> {
     line.clear();
     input.take(LINE_ROOM as u64).read_until(b'\n', line)?;

@@ -4,7 +4,7 @@ use logic::Letter;
 use std::alloc::Global;
 use std::str;
 use std::str::FromStr;
-use table::NodeNo;
+use table::{Node, NodeNo};
 use trace::Moment;
 
 #[derive(Drop)]
@@ -20,7 +20,7 @@ pub enum Request<'a> {
     LtlVerdict,
     Letter(Moment),
     Rest(Moment),
-    Node(NodeNo, [u16; 3]),
+    Node(NodeNo, Node<u16>),
     Nodes,
     ShowPsl(Option<usize>),
     ShowLtl(Option<usize>),
@@ -60,7 +60,10 @@ where
 // A node's number, its kind and its two places.
 fn node<'a>(numbers: &[u16]) -> Result<Request<'a>, Fault> {
     match numbers {
-        [no, kind, left, right] => Ok(Request::Node(NodeNo(*no), [*kind, *left, *right])),
+        [no, kind, left, right] => Ok(Request::Node(
+            NodeNo(*no),
+            Node::from([*kind, *left, *right]),
+        )),
         _ => Err(Fault::NotUnderstood),
     }
 }

@@ -22,17 +22,17 @@ ghost use Rattle.brancadol.specs.Answer.{letter_after, PslCoded, LtlCoded, Trans
 use crate::value::Value;
 use logic::Letter;
 use table::{Node, NodeNo};
-use text::copy::copy_letters;
+use text::copy::copy_front;
 use trace::{Moment, Refusal, TraceView};
 
 // How many values an answer has room for: 2^56.
 const VALUES: u64 = 72057594037927936;
 
-// An answer: 0 or a refusal's number, and a value.
+// An answer: 0 or a refusal's number, and a value. These functions stand for conversions of the library, since C is answered one number.
 fn coded(number: u8, value: u64) -> u64
     ensures { result ≡ code number value }
 {
-    (number as u64) + 256 * (value % VALUES)
+    u64::from(number) + 256 * (value % VALUES)
 }
 
 fn success_code(value: u64) -> u64
@@ -57,7 +57,7 @@ fn answer_code<T: Value>(a: Result<T, Refusal>) -> u64
     }
 }
 
-// The letter into the lent place, which a refusal leaves as it was.
+// The letter into the lent place, which a refusal leaves as it was. A match of its own: the code has no room for a letter.
 fn put_letter(a: Result<Letter, Refusal>, letter: &mut Letter) -> u64
     ensures { (result ≡ found_code a) × (letter.new ≡ letter_after a letter.old) }
 {
@@ -95,7 +95,7 @@ pub extern "C" fn brancadol_rest<'a>(
     ensures out_after { out.new ≡ sets out.old 0 (rest_of lead.now cycle.now moment) }
 {
     let part = trace::rest_of(lead, cycle, Moment(moment));
-    copy_letters(part, out);
+    copy_front(part, out);
     success_code(part.len() as u64)
 }
 
@@ -152,6 +152,7 @@ pub extern "C" fn brancadol_read_trace(
     answer_code(trace_lines::read_trace(line, lead, cycle))
 }
 
+// C has no nodes: it gives the four numbers.
 #[unsafe(no_mangle)]
 pub extern "C" fn brancadol_write_node(
     own: u16,

@@ -25,7 +25,7 @@ ghost use Rattle.exports.specs.Coded.{answer_code, found_code, checked_code, ver
 use crate::value::Value;
 use logic::Letter;
 use table::{Node, NodeNo};
-use text::copy::copy_letters;
+use text::copy::copy_front;
 use trace::{Moment, Refusal, TraceView};
 
 // The code of any answer.
@@ -62,7 +62,7 @@ pub extern "C" fn brancadol_rest<'a>(
     ensures out_after { out.new ≡ sets out.old 0 (rest_of lead.now cycle.now moment) }
 {
     let part = trace::rest_of(lead, cycle, Moment(moment));
-    copy_letters(part, out);
+    copy_front(part, out);
     256 + (part.len() as u64)
 }
 
@@ -119,6 +119,7 @@ pub extern "C" fn brancadol_read_trace(
     answer_code(trace_lines::read_trace(line, lead, cycle))
 }
 
+// C has no nodes: it gives the four numbers.
 #[unsafe(no_mangle)]
 pub extern "C" fn brancadol_write_node(
     own: u16,

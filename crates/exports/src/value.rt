@@ -1,4 +1,5 @@
-// What a success gives, as one number: so that all answers are coded by one function.
+// What a success gives, as one number: so that all answers are coded by one function. The library brancadol has a trait of its own: its codes are others, and those
+// here are what the tests in Rust take.
 ghost use Rattle.std.specs.Prelude.{◌≡◌, ℕ, ◌+◌};
 ghost use Rattle.exports.specs.Value.{nothing, verdict, count, lengths};
 

@@ -7,7 +7,8 @@ use native.Mathlib.Omega.{arith}
 use lib.Dec.{T}
 use Rattle.text.specs.Text.{text}
 use Rattle.text.specs.Inner.Number.{NoDigit}
-use Rattle.formula_lines.specs.Inner.Form.{Form, truth, signal, one, two, keyword, shape, arity, left_sort, right_sort, kinds, Sorted, OfKind, bytes, inner}
+use Rattle.formula_lines.specs.Inner.Kinds.{keyword, shape, arity, left_sort, right_sort, kinds}
+use Rattle.formula_lines.specs.Inner.Form.{Form, truth, signal, one, two, Sorted, OfKind, bytes, inner}
 use Rattle.text.specs.Inner.Words.{elem}
 use Rattle.formula_lines.specs.Inner.Reader.{Ended}
 use Rattle.text.proofs.NumberLaw.{digits_unique}

@@ -11,7 +11,8 @@ use Rattle.psl.specs.Table.{Part, boolean, formula, as_formula, part_of}
 use Rattle.text.specs.Text.{text}
 use Rattle.formula_lines.specs.Spelling.{spell_b, spell, formula_line}
 use Rattle.psl.specs.Closing.{nodes_b, nodes}
-use Rattle.formula_lines.specs.Inner.Form.{Form, truth, signal, one, two, keyword, shape, arity, left_sort, right_sort, kinds, Sorted, bytes, closed}
+use Rattle.formula_lines.specs.Inner.Kinds.{keyword, shape, arity, left_sort, right_sort, kinds}
+use Rattle.formula_lines.specs.Inner.Form.{Form, truth, signal, one, two, Sorted, bytes, closed}
 use Rattle.text.specs.Inner.Words.{elem}
 use Rattle.formula_lines.proofs.FormLaw.{boolean-kinds, formula-kinds, form_unique}
 
@@ -57,19 +58,12 @@ IsBool f = (b : BoolExpr) × (bool_form b ≡ f)
 abbrev IsFormula : Form → Type 0
 IsFormula f = (g : Formula) × (form g ≡ f)
 
--- One operand, or two.
-join₁ : {A : Type 0} (t : A → Form) (k : ℕ) {f : Form} (x : A) → t x ≡ f → one k (t x) ≡ one k f
-join₁ t k x e = ap (one k) e
-
-join₂ : {A B : Type 0} (t : A → Form) (u : B → Form) (k : ℕ) {f g : Form} (x : A) (y : B) → t x ≡ f → u y ≡ g → two k (t x) (u y) ≡ two k f g
-join₂ t u k {f} x y e d = ap (λ (z : Form). two k z (u y)) e ∙ ap (two k f) d
-
 one_bool : (f : Form) → (Sorted 0 f → IsBool f) → (k : ℕ) → T (elem k (kinds 0)) → arity k ≡ 1 → Sorted (left_sort k) f → IsBool (one k f)
 unfolding shape
 one_bool f ih =
     boolean-kinds (λ k. arity k ≡ 1 → Sorted (left_sort k) f → IsBool (one k f))
     (λ a h. absurd (omega arith))
-    (λ a h. let (b, e) = ih h in (bnot b, join₁ bool_form 2 b e))
+    (λ a h. let (b, e) = ih h in (bnot b, ap (one 2) e))
     (λ a h. absurd (omega arith))
 
 two_bool : (f g : Form) → (Sorted 0 f → IsBool f) → (Sorted 0 g → IsBool g)
@@ -79,7 +73,7 @@ two_bool f g ih jh =
     boolean-kinds (λ k. arity k ≡ 2 → Sorted (left_sort k) f → Sorted (right_sort k) g → IsBool (two k f g))
     (λ a h i. absurd (omega arith))
     (λ a h i. absurd (omega arith))
-    (λ a h i. let (b, e) = ih h in let (c, d) = jh i in (band b c, join₂ bool_form bool_form 3 b c e d))
+    (λ a h i. let (b, e) = ih h in let (c, d) = jh i in (band b c, rw (e, d)))
 
 as_bool : (f : Form) → Sorted 0 f → IsBool f
 as_bool truth h = (btrue, refl)
@@ -92,11 +86,11 @@ one_formula : (f : Form) → (Sorted 1 f → IsFormula f)
 unfolding shape
 one_formula f ih =
     formula-kinds (λ k. arity k ≡ 1 → Sorted (left_sort k) f → IsFormula (one k f))
-    (λ a h. let (b, e) = as_bool f h in (weak b, join₁ bool_form 4 b e))
-    (λ a h. let (b, e) = as_bool f h in (strong b, join₁ bool_form 5 b e))
-    (λ a h. let (g, e) = ih h in (fnot g, join₁ form 6 g e))
+    (λ a h. let (b, e) = as_bool f h in (weak b, ap (one 4) e))
+    (λ a h. let (b, e) = as_bool f h in (strong b, ap (one 5) e))
+    (λ a h. let (g, e) = ih h in (fnot g, ap (one 6) e))
     (λ a h. absurd (omega arith))
-    (λ a h. let (g, e) = ih h in (next g, join₁ form 8 g e))
+    (λ a h. let (g, e) = ih h in (next g, ap (one 8) e))
     (λ a h. absurd (omega arith))
     (λ a h. absurd (omega arith))
 
@@ -108,10 +102,10 @@ two-formula f g ih jh =
     (λ a h i. absurd (omega arith))
     (λ a h i. absurd (omega arith))
     (λ a h i. absurd (omega arith))
-    (λ a h i. let (x, e) = ih h in let (y, d) = jh i in (fand x y, join₂ form form 7 x y e d))
+    (λ a h i. let (x, e) = ih h in let (y, d) = jh i in (fand x y, rw (e, d)))
     (λ a h i. absurd (omega arith))
-    (λ a h i. let (x, e) = ih h in let (y, d) = jh i in (until x y, join₂ form form 9 x y e d))
-    (λ a h i. let (x, e) = ih h in let (y, d) = as_bool g i in (abort x y, join₂ form bool_form 10 x y e d))
+    (λ a h i. let (x, e) = ih h in let (y, d) = jh i in (until x y, rw (e, d)))
+    (λ a h i. let (x, e) = ih h in let (y, d) = as_bool g i in (abort x y, rw (e, d)))
 
 pub as_formula_lem : (f : Form) → Sorted 1 f → IsFormula f
 as_formula_lem truth h = absurd (omega arith)

@@ -2,20 +2,17 @@
 use mathlib.Core.Path.{◌≡◌, refl, ap, sym, subst, ◌∙◌}
 use mathlib.Core.Logic.{◌⊎◌, inl, inr}
 use mathlib.Core.Bool.{Bool, true, false}
-use mathlib.Core.List.{List, [], ◌∷◌, ◌++◌, map}
-use Prim.Native.Nat.{ℕ, zero, suc, ◌+◌, max, ◌<◌, ◌≤◌}
+use mathlib.Core.List.{List, [], ◌∷◌, ◌++◌}
+use Prim.Native.Nat.{ℕ, suc, max, ◌≤◌}
 use native.Mathlib.Omega.{arith}
 use borrow.Author.Tests.{ltb-true, ltb-false}
-use native.Mathlib.Numerals.{add-one}
-use lib.ListN.{length, take, drop, get_or}
+use lib.ListN.{length, drop}
 use lib.Dec.{ltb}
 use Rattle.text.specs.Inner.Places.{Agree, Begins, Stops}
 use Rattle.text.proofs.PlaceLaw.{agree_less}
-use Rattle.psl.specs.declared.kind.Kind.{Kind}
-use Rattle.psl.specs.Kind.{number}
 use Rattle.formula_lines.specs.declared.Sort.{Sort}
 use Rattle.text.proofs.WordLaw.{elem_split, elem_first, elem_last}
-use Rattle.formula_lines.specs.Inner.Form.{keyword}
+use Rattle.formula_lines.specs.Inner.Kinds.{keyword}
 use Rattle.formula_lines.specs.Inner.Reader.{KeywordOf, NoneOf, sort_number}
 
 pub none_yet : (s : List ℕ) (at : ℕ) → at ≤ length s → NoneOf [] s at at
@@ -55,12 +52,3 @@ module _ {s : List ℕ} {at p q : ℕ} (j : ℕ) (ks : List ℕ) (a : NoneOf ks 
 pub sort_formula : (so : Sort) → (so ≡ Sort.Boolean → ⊥) → sort_number so ≡ 0 → ⊥
 sort_formula Sort.Boolean z e = z refl
 sort_formula Sort.Formula z e = absurd (omega (arith, e))
-
--- The numbers of one kind more.
-numbers_suc : (ks : List Kind) (i : ℕ) (d : Kind) → i < length ks → map number (take i ks) ++ (number (get_or ks i d) ∷ []) ≡ map number (take (suc i) ks)
-numbers_suc [] i d h = absurd (omega arith)
-numbers_suc (k ∷ ks) zero d h = refl
-numbers_suc (k ∷ ks) (suc i) d h = ap (λ (x : List ℕ). number k ∷ x) (numbers_suc ks i d (omega arith))
-
-pub numbers_more : (ks : List Kind) (i : ℕ) (d : Kind) → i < length ks → map number (take i ks) ++ (number (get_or ks i d) ∷ []) ≡ map number (take (i + 1) ks)
-numbers_more ks i d h = rw add-one (numbers_suc ks i d h)

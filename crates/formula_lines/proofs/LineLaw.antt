@@ -6,16 +6,15 @@ use mathlib.Core.List.{List, [], ◌∷◌, ◌++◌, append_assoc, append-nil, 
 use Prim.Native.Nat.{ℕ, suc, ◌*◌, ◌<◌, ◌≤◌}
 use native.Mathlib.Omega.{arith}
 use borrow.Author.Tests.{lt-leb, le-leb}
-use lib.ListN.{length, drop}
-use lib.Seq.{drop-length}
+use lib.ListN.{length, take, drop}
+use lib.Seq.{sets, drop-length}
 use lib.Dec.{leb}
 use Rattle.table.specs.Node.{numbers_of}
 use Rattle.table.proofs.NodeLaw.{length-numbers}
 use Rattle.logic.specs.Formula.{BoolExpr, btrue, var, bnot, band, Formula, weak, strong, fnot, fand, next, until, abort}
-use Rattle.std.specs.Prelude.{Result, Ok, Err}
+use Rattle.std.specs.Prelude.{Ok, Err}
 use Rattle.trace.specs.declared.refusal.Refusal.{Refusal}
 use Rattle.trace.specs.declared.refusal.Refusal.TheVariants.{LongLine, Shape, ManyNodes, LargeSignal, ListRoom}
-use Rattle.text.specs.declared.scan.Fault.{Fault}
 use Rattle.psl.specs.Check.{psl_rules}
 use Rattle.text.specs.Text.{text}
 use Rattle.formula_lines.specs.Spelling.{spell, formula_line}
@@ -25,11 +24,10 @@ use Rattle.text.specs.Reading.{long, breaks, spells}
 use Rattle.formula_lines.specs.FormulaAnswer.{formula_limits, formula_refusal, FormulaAnswer}
 use Rattle.text.specs.Inner.Places.{Stands, Agree, Begins, Stops, StopsLine, Only}
 use Rattle.formula_lines.specs.Inner.Form.{Form, Sorted, bytes, closed, wide}
-use Rattle.formula_lines.specs.Inner.Reader.{FormOf, with_nodes, FormStands, SpellsFormula, WholeStands, WholeRead}
-use Rattle.formula_lines.specs.declared.Read.{Read}
-use Rattle.text.proofs.PlaceLaw.{agree_self, stands_join, halts-first, begins-first, halts-after, stops_line, Nothing, stops_end}
-use Rattle.text.proofs.ReadingLaw.{breaks-at, front-sets}
-use Rattle.formula_lines.proofs.FormulaLaw.{bool_form, form, form-sorted, form-bytes, form-nodes, as_formula_lem, spell_unique, line_unique, formula_injective}
+use Rattle.formula_lines.specs.Inner.Reader.{FormOf, with_nodes, FormStands, SpellsFormula, WholeStands}
+use Rattle.text.proofs.PlaceLaw.{stands_join, halts-first, begins-first, halts-after, stops_line, Nothing, stops_end}
+use Rattle.text.proofs.ReadingLaw.{breaks-at, front-sets, front-take}
+use Rattle.formula_lines.proofs.FormulaLaw.{bool_form, form, form-sorted, form-bytes, form-nodes, as_formula_lem, spell_unique, line_unique}
 
 -- ── Signals ──
 
@@ -132,7 +130,7 @@ too_long s l h = (record { reading = long h; reason = refl }, refl)
 pub no-formula : (s l : List ℕ) {p : ℕ} → length s ≤ most_bytes → StopsLine SpellsFormula s 0 p → FormulaAnswer s l (Err Shape) l
 no-formula s l {p} h a = (record { reading = breaks h p (breaks-at (λ w x. x) (λ f. (f, refl)) a); reason = refl }, refl)
 
--- The line spells f; a and b are the list of the reading without room.
+-- The line spells f; a and b are the list that it was read into, before and after.
 module _ {s : List ℕ} (l : List ℕ) {f : Formula} {nodes : ℕ} {large : Bool} {a b : List ℕ} (h : length s ≤ most_bytes) (x : WholeStands f s nodes large a b) where
   refuses : (e : Refusal) → formula_refusal (length l) f ≡ some e → FormulaAnswer s l (Err e) l
   refuses e d = (record { reading = spells h f x.is; reason = d }, refl)
@@ -159,17 +157,14 @@ module _ {s : List ℕ} (l : List ℕ) {f : Formula} {nodes : ℕ} {large : Bool
         unfolding formula_limits formula_refusal
         room = rw (few, sym x.signals ∙ j, le-leb (3 * length (closing_nodes f)) (length l) (omega (arith, x.counted)))
 
-        pub table-read : (m : List ℕ) (r : Result Read Fault) → WholeRead s l m r → FormulaAnswer s l (Ok nodes) m
-        table-read m r y = (
-          f,
-          record { short = h; is = x.is; within = room },
-          x.counted,
-          go r y ∙ front-sets (numbers_of (closing_nodes f)) l (omega (arith, x.counted, length-numbers (closing_nodes f))),
-        )
-          where
-            go : (r : Result Read Fault) → WholeRead s l m r → m ≡ with_nodes l (closing_nodes f)
-            go (Err u) z = absurd (z.none s (agree_self (suc u.0) s) (f, x.is))
-            go (Ok q) (g, z) =
-                let d = formula_injective f g (sym x.is ∙ z.is) in
-                z.written (z.signals ∙ ap large_signal (sym d) ∙ sym x.signals ∙ j)
-                ∙ ap (λ (u : Formula). with_nodes l (closing_nodes u)) (sym d)
+        -- The table was put aside in a list with room for it, and from there into the lent list.
+        pub table-read : 3 * nodes ≤ length a → (l' : List ℕ) → l' ≡ sets l 0 (take (3 * nodes) b) → FormulaAnswer s l (Ok nodes) l'
+        table-read u l' e =
+            let few : 3 * nodes ≡ length (numbers_of (closing_nodes f)) = omega (arith, x.counted, length-numbers (closing_nodes f)) in
+            let aside : take (3 * nodes) b ≡ numbers_of (closing_nodes f) =
+            ap (take (3 * nodes)) (x.written j ∙ front-sets (numbers_of (closing_nodes f)) a (omega arith)) ∙ front-take (numbers_of (closing_nodes f)) a (3 * nodes) few in (
+              f,
+              record { short = h; is = x.is; within = room },
+              x.counted,
+              e ∙ ap (sets l 0) aside ∙ front-sets (numbers_of (closing_nodes f)) l (omega arith),
+            )

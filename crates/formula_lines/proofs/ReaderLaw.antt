@@ -6,26 +6,27 @@ use mathlib.Core.List.{List, [], ◌∷◌, ◌++◌, append_assoc, append-nil, 
 use Prim.Native.Nat.{ℕ, zero, suc, ◌+◌, ◌*◌, ◌-◌, ◌≤◌}
 use native.Mathlib.Omega.{arith}
 use borrow.Author.Tests.{le-leb, lt-leb}
-use lib.ListN.{length, drop}
+use lib.ListN.{length, drop, length-append}
 use lib.Seq.{sets}
 use lib.Dec.{T, leb}
 use Rattle.std.specs.Prelude.{Option, Some, None, unwrap_or, is_some}
 use Rattle.logic.specs.Letter.{signals}
 use Rattle.table.specs.Node.{Node, node, numbers_of, ◌▸◌, last}
-use Rattle.table.proofs.NodeLaw.{length-numbers, length_more}
+use Rattle.table.proofs.NodeLaw.{length-numbers}
 use Rattle.text.specs.Text.{text}
 use Rattle.text.specs.Spelling.{digits}
 use Rattle.text.specs.Inner.Places.{Stands, Agree, Language, Begins, Halts, Stops, Only}
 use Rattle.text.specs.Inner.Number.{Numeral, Numbered}
 use Rattle.text.specs.Inner.Scan.{Counts, NumberStands}
-use Rattle.formula_lines.specs.Inner.Form.{Form, truth, signal, one, two, keyword, arity, left_sort, right_sort, kinds, Sorted, OfKind, bytes, inner, closed, wide}
+use Rattle.formula_lines.specs.Inner.Kinds.{keyword, arity, left_sort, right_sort, kinds}
+use Rattle.formula_lines.specs.Inner.Form.{Form, truth, signal, one, two, Sorted, OfKind, bytes, inner, closed, wide}
 use Rattle.text.specs.Inner.Words.{elem}
 use Rattle.formula_lines.specs.Inner.Reader.{KeywordOf, NoneOf, InBrackets, FormOf, OperandsOf, with_nodes, FormStands, Ended, OperandsStand}
 use Rattle.text.proofs.PlaceLaw.{agree_less, stands_join, stands_end, stops_first, halts-first, begins-first, halts-after}
 use Rattle.text.proofs.ScanLaw.{no-digit-agree}
 use Rattle.table.proofs.StoreLaw.{sets-sets, numbers_more}
 use Rattle.formula_lines.proofs.FormLaw.{View, view, kind_fact, kind-sorted, kind-bytes, none_of, one_of, two_of, form_unique, operands_unique, sample, sample_sorted, sample_open, kind_sample, open_bytes, word-kind, var-arity}
-use Rattle.table.proofs.CheckLaw.{either-false}
+use Rattle.std.proofs.lemmas.Bool.{or_parts}
 
 -- ── The lent list ──
 
@@ -74,7 +75,7 @@ true-stands s at n p l l' h a d =
       more = omega arith;
       grows = omega arith;
       few = omega arith;
-      counted = λ ns c. length_more ns (node 0 0 0) ∙ ap (λ (m : ℕ). m + 1) c;
+      counted = λ ns c. length-append ns (node 0 0 0 ∷ []) ∙ ap (λ (m : ℕ). m + 1) c;
       signals = refl;
       written = λ _ l₀ ns c f. d ∙ ap (λ (x : List ℕ). sets x (3 * n) (0 ∷ 0 ∷ 0 ∷ [])) f ∙ with_nodes-more l₀ ns n 0 0 0 c;
     }
@@ -105,7 +106,7 @@ module _ (s : List ℕ) (at n next v : ℕ) (l : List ℕ) (h : n ≤ at) (a : N
         more = a.more;
         grows = omega arith;
         few = omega (arith, a.more);
-        counted = λ ns e. length_more ns (node 1 v 0) ∙ ap (λ (m : ℕ). m + 1) e;
+        counted = λ ns e. length-append ns (node 1 v 0 ∷ []) ∙ ap (λ (m : ℕ). m + 1) e;
         signals = b;
         written = λ x l₀ ns e d.
             ap (λ (y : List ℕ). sets y (3 * n) (1 ∷ left ∷ 0 ∷ [])) d
@@ -251,7 +252,7 @@ module _ {s : List ℕ} {at : ℕ} (k : ℕ) where
         more = a.more;
         grows = omega (arith, a.grows);
         few = a.few;
-        counted = λ ns c. length_more (closed f ns) _ ∙ ap (λ (m : ℕ). m + 1) (a.counted ns c);
+        counted = λ ns c. length-append (closed f ns) _ ∙ ap (λ (m : ℕ). m + 1) (a.counted ns c);
         signals = a.signals;
         written = λ x l₀ ns c d.
             let i = a.counted ns c in
@@ -305,10 +306,10 @@ module _ {s : List ℕ} {at : ℕ} (k : ℕ) where
             more = omega (arith, a.more, o.after, c.more);
             grows = omega (arith, a.grows, c.grows);
             few = c.few;
-            counted = λ ns i. length_more (closed g (closed f ns)) _ ∙ ap (λ (m : ℕ). m + 1) (c.counted (closed f ns) (a.counted ns i));
+            counted = λ ns i. length-append (closed g (closed f ns)) _ ∙ ap (λ (m : ℕ). m + 1) (c.counted (closed f ns) (a.counted ns i));
             signals = u ∙ ap (λ (y : Bool). y || more) a.signals ∙ ap (λ (y : Bool). wide f || y) c.signals;
             written = λ x l₀ ns i d.
-                let (p, q) = either-false large more (sym u ∙ x) in
+                let (p, q) = or_parts large more (sym u ∙ x) in
                 let j = a.counted ns i in
                 let r = c.counted (closed f ns) j in
                 ap (λ (y : List ℕ). sets y (3 * all) (k ∷ (nodes - 1) ∷ (all - 1) ∷ [])) (c.written q l₀ (closed f ns) j (a.written p l₀ ns i d))

@@ -1,3 +1,4 @@
 -- What the inner functions promise: read these after `FormulaAnswer`.
+pub mod Kinds
 pub mod Form
 pub mod Reader

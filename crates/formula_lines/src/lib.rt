@@ -1,17 +1,20 @@
 // Formula lines: nested brackets, read by two functions that call each other.
 #![tactic(auto)]
 
-ghost use Rattle.std.specs.Prelude.{◌≡◌, ℕ, ◌+◌, ◌*◌, ◌<◌, ◌≤◌, List, [], ◌∷◌, length};
+ghost use Rattle.std.specs.Prelude.{◌≡◌, ℕ, ◌+◌, ◌-◌, ◌*◌, ◌<◌, ◌≤◌, List, [], ◌∷◌, length};
 ghost use Rattle.std.proofs.lemmas.List.Edits.{sets};
 ghost use Rattle.psl.specs.Kind.{number};
-ghost use Rattle.formula_lines.specs.Inner.Form.{keyword, kinds};
+ghost use Rattle.table.specs.Inner.Place.{use_of};
+ghost use Rattle.formula_lines.specs.Inner.Kinds.{keyword, kinds};
 ghost use Rattle.text.specs.Inner.Places.{CursorIn, Only, Stops};
 ghost use Rattle.text.specs.Limits.{most_bytes};
 ghost use Rattle.formula_lines.specs.FormulaAnswer.{FormulaAnswer};
-ghost use Rattle.formula_lines.specs.Inner.Reader.{sort_number, kinds_of, PartsAre, InBrackets, KeywordRead, FormRead, OperandsRead, WholeRead};
+ghost use Rattle.formula_lines.specs.Inner.Reader.{sort_number, kinds_of, FormIn, PartsAre, InBrackets, KeywordRead, FormRead, OperandsRead, WholeRead};
 
 use logic::SIGNALS;
 use psl::{Kind, MOST_NODES};
+use table::{Node, NodeNo, Place};
+use text::copy::copy_front;
 use text::put::put;
 use text::scan;
 use text::scan::{Cursor, Fault};
@@ -48,13 +51,13 @@ impl Sort {
 }
 
 // The keyword of a kind, with the space after it. Not inlined it is a look-up; inlined, each turn of the loop over the kinds would be a jump.
-#[tactic(auto, unfolding(crate::specs::Inner::Form::keyword))]
+#[tactic(auto, unfolding(crate::specs::Inner::Kinds::keyword))]
 #[inline(never)]
 fn keyword(kind: Kind) -> &'static [u8]
     ensures { result.now ≡ keyword (number kind) }
 {
     match kind {
-        Kind::True => b"",
+        Kind::True => b"", // it stands without brackets
         Kind::Var => b"var ",
         Kind::Bnot => b"bnot ",
         Kind::Band => b"band ",
@@ -76,29 +79,39 @@ enum Parts {
     Two(Sort, Sort),
 }
 
-#[tactic(auto, unfolding(crate::specs::Inner::Form::shape))]
-fn parts_of(kind: Kind) -> Parts
-    ensures { PartsAre (number kind) result }
+// The sort of the form that stands in a place, if one does.
+fn form_in(place: Place) -> Option<Sort>
+    ensures { FormIn (use_of place) result }
 {
-    match kind {
-        Kind::True | Kind::Var => Parts::Signal,
-        Kind::Bnot | Kind::Weak | Kind::Strong => Parts::One(Sort::Boolean),
-        Kind::Band => Parts::Two(Sort::Boolean, Sort::Boolean),
-        Kind::Not | Kind::Next => Parts::One(Sort::Formula),
-        Kind::And | Kind::Until => Parts::Two(Sort::Formula, Sort::Formula),
-        Kind::Abort => Parts::Two(Sort::Formula, Sort::Boolean),
+    match place {
+        Place::Boolean => Some(Sort::Boolean),
+        Place::Formula => Some(Sort::Formula),
+        Place::Unused | Place::Signal => None,
     }
 }
 
-// A node's three numbers. The list and the count of its nodes stay two parameters: a struct that held the lent list would need a clause in each contract that it
-// still is that list.
-fn put_node(out: &mut [u16], n: usize, kind: Kind, left: u16, right: u16)
-    requires { n ≤ 16384 }
-    ensures { out.new ≡ sets out.old (3 * n) (number kind ∷ left ∷ right ∷ []) }
+// By the two places of a kind. Where no form stands left, none stands right.
+#[tactic(auto, unfolding(crate::specs::Inner::Kinds::shape))]
+fn parts_of(kind: Kind) -> Parts
+    ensures { PartsAre (number kind) result }
 {
-    put(out, 3 * n, kind.into());
-    put(out, 3 * n + 1, left);
-    put(out, 3 * n + 2, right);
+    let (left, right) = table::Kind::places(kind);
+    match (form_in(left), form_in(right)) {
+        (None, _) => Parts::Signal,
+        (Some(sort), None) => Parts::One(sort),
+        (Some(first), Some(second)) => Parts::Two(first, second),
+    }
+}
+
+// A node's three numbers, as C lends and takes a table. The list and the count of its nodes stay two parameters, also where the list is one of this crate's own: as a struct of
+// both they would come with a clause in each contract, as in `Walks` of the translator, that the struct still holds the same list.
+fn put_node(out: &mut [u16], n: usize, node: Node<Kind>)
+    requires { n ≤ 16384 }
+    ensures { out.new ≡ sets out.old (3 * n) (number node.kind ∷ node.left ∷ node.right ∷ []) }
+{
+    put(out, 3 * n, node.kind.into());
+    put(out, 3 * n + 1, node.left);
+    put(out, 3 * n + 2, node.right);
 }
 
 // What was read: the count of nodes then, and whether a signal is too large. The refusal of too many nodes comes first, so both are told.
@@ -106,6 +119,17 @@ fn put_node(out: &mut [u16], n: usize, kind: Kind, left: u16, right: u16)
 struct Read {
     nodes: usize,
     large: bool,
+}
+
+impl Read {
+    // The node that was read last.
+    fn last(self) -> NodeNo
+        requires some { 0 < self.nodes }
+        requires few { self.nodes ≤ 65536 }
+        ensures { result.0 ≡ self.nodes - 1 }
+    {
+        NodeNo::from_index(self.nodes - 1)
+    }
 }
 
 // The operands that were read, and what the node's two places hold.
@@ -143,7 +167,12 @@ fn read_true(cursor: &mut Cursor, sort: Sort, out: &mut [u16], n: usize) -> Resu
         return Err(Fault(cursor.at));
     };
     cursor.expect(b"true")?;
-    put_node(out, n, Kind::True, 0, 0);
+    let node = Node {
+        kind: Kind::True,
+        left: 0,
+        right: 0,
+    };
+    put_node(out, n, node);
     Ok(Read {
         nodes: n + 1,
         large: false,
@@ -158,7 +187,7 @@ fn read_signal(cursor: &mut Cursor, n: usize) -> Result<Operands, Fault>
 {
     let signal = cursor.number(LARGEST_SIGNAL)?;
     Ok(Operands {
-        left: signal.unwrap_or(0) as u16,
+        left: signal.unwrap_or(0) as u16, // within the limit, so that it fits
         right: 0,
         read: Read {
             nodes: n,
@@ -181,7 +210,12 @@ fn read_form(cursor: &mut Cursor, sort: Sort, out: &mut [u16], n: usize) -> Resu
     let operands = read_operands(cursor, kind, out, n)?;
     cursor.expect(b")")?;
     let nodes = operands.read.nodes;
-    put_node(out, nodes, kind, operands.left, operands.right);
+    let node = Node {
+        kind,
+        left: operands.left,
+        right: operands.right,
+    };
+    put_node(out, nodes, node);
     Ok(Read {
         nodes: nodes + 1,
         large: operands.read.large,
@@ -205,9 +239,8 @@ fn read_operands(
         Parts::Signal => read_signal(cursor, n),
         Parts::One(sort) => {
             let read = read_form(cursor, sort, out, n)?;
-            let left = (read.nodes - 1) as u16;
             Ok(Operands {
-                left,
+                left: read.last().0,
                 right: 0,
                 read,
             })
@@ -216,13 +249,14 @@ fn read_operands(
             let before = read_form(cursor, first, out, n)?;
             cursor.expect(b" ")?;
             let after = read_form(cursor, second, out, before.nodes)?;
-            let left = (before.nodes - 1) as u16;
-            let right = (after.nodes - 1) as u16;
-            let read = Read {
-                nodes: after.nodes,
-                large: before.large | after.large,
-            };
-            Ok(Operands { left, right, read })
+            Ok(Operands {
+                left: before.last().0,
+                right: after.last().0,
+                read: Read {
+                    nodes: after.nodes,
+                    large: before.large | after.large,
+                },
+            })
         }
     }
 }
@@ -240,14 +274,15 @@ fn read_whole(line: &[u8], out: &mut [u16]) -> Result<Read, Fault>
     Ok(read)
 }
 
-// A formula line's table into the lent list: how many nodes it has. The line is read twice: first with no room, and again where nothing is to be refused.
+// A formula line's table into the lent list: how many nodes it has. It is read aside first, since a refusal leaves the list as it was.
 pub fn read_formula(line: &[u8], out: &mut [u16]) -> Result<usize, Refusal>
     ensures { FormulaAnswer line.now out.old result out.new }
 {
     if scan::MOST_BYTES < line.len() {
         return Err(Refusal::LongLine);
     }
-    let read = read_whole(line, &mut [])?;
+    let mut table = [0u16; 3 * MOST_NODES];
+    let read = read_whole(line, &mut table)?;
     if MOST_NODES < read.nodes {
         return Err(Refusal::ManyNodes);
     }
@@ -257,6 +292,6 @@ pub fn read_formula(line: &[u8], out: &mut [u16]) -> Result<usize, Refusal>
     if out.len() < 3 * read.nodes {
         return Err(Refusal::ListRoom);
     }
-    let _ = read_whole(line, out);
+    copy_front(&table[..3 * read.nodes], out);
     Ok(read.nodes)
 }

@@ -12,12 +12,12 @@ use psl::PslTable;
 use std::marker::PhantomData;
 use trace::Refusal;
 
-// Room for the numbers of the largest tables.
+// Room for the numbers of the largest tables, three a node, as the reader and the translator take them of C.
 const PSL_ROOM: usize = 3 * psl::MOST_NODES;
 
 const LTL_ROOM: usize = 3 * ltl::MOST_NODES;
 
-// The tables of line 1. Both passed their check, so that no later line has to test them again.
+// The tables of line 1. Both passed their check, so that no later line has to test them again. Two lists with a method each: a type for either kind would be longer than both.
 #[derive(Drop)]
 pub struct Tables {
     pub psl: ArrayVec<u16, PSL_ROOM>,

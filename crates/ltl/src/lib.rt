@@ -7,7 +7,7 @@ ghost use Rattle.std.specs.Prelude.{◌≡◌};
 ghost use Rattle.ltl.specs.Answer.{LtlChecks};
 
 pub use kind::Kind;
-use table::{Checked, NodeNo, Table};
+use table::{Checked, Node, NodeNo, Table};
 use trace::Refusal;
 
 // The most nodes of a table.
@@ -23,9 +23,10 @@ pub fn check_ltl(t: &[u16]) -> Result<(), Refusal>
     if !table::length_fits(MOST_NODES, t.len()) {
         return Err(Refusal::LtlLength);
     }
-    for i in 0..t.len() / 3 {
-        let own = NodeNo(i as u16);
-        if !table::low_node::<Kind>(own, table::node_in(t, i)) {
+    // A loop of its own beside that of PSL tables, which also counts how often a node is used: in one for both a count would be made here that nothing reads.
+    for (i, x) in table::nodes_of(t).iter().enumerate() {
+        let own = NodeNo::from_index(i);
+        if !table::low_node::<Kind>(own, Node::from(*x)) {
             return table::refused_at::<Kind>(t, own);
         }
     }

@@ -11,7 +11,7 @@ ghost use Rattle.ltl_verdict.specs.Verdict.{LtlJudges};
 
 use ltl::{Kind, LtlTable};
 use rows::{Row, SignalRows};
-use table::NodeNo;
+use table::{FEW_NODES, NodeNo};
 use trace::{MOST_LETTERS, Refusal, TraceView, Verdict};
 
 // The rows of all nodes of a table, from node 0 up. That a row has room for the trace is a `requires` of three private functions: a type for such traces
@@ -22,7 +22,7 @@ fn fill_rows(t: LtlTable<'_>, trace: TraceView<'_>, told: &mut [Row])
 {
     let mut signals = SignalRows::new(trace);
     for i in 0..t.nodes() {
-        let node = t.node(NodeNo(i as u16));
+        let node = t.node(NodeNo::from_index(i)).unwrap();
         told[i] = match node.kind {
             Kind::Var => signals.row(node.left),
             kind => {
@@ -41,11 +41,8 @@ fn holds_within<const N: usize>(t: LtlTable<'_>, trace: TraceView<'_>) -> bool
 {
     let mut told = [0; N];
     fill_rows(t, trace, &mut told);
-    rows::holds_first(told[usize::from(t.root().0)], trace)
+    rows::holds_first(told[t.root().index()], trace)
 }
-
-// What a small table has at most.
-const FEW_NODES: usize = 128;
 
 // Whether a table holds on a trace. Small tables, which are the rule, clear a small array.
 fn ltl_holds(t: LtlTable<'_>, trace: TraceView<'_>) -> bool

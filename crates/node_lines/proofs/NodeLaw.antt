@@ -8,8 +8,8 @@ use mathlib.Core.List.{List, [], ◌∷◌, ◌++◌, map, append_assoc, append_
 use Prim.Native.Nat.{ℕ, zero, suc, ◌<◌, ◌≤◌}
 use native.Mathlib.Omega.{arith}
 use borrow.Author.Tests.{lt-ltb, le-ltb, ltb-true}
-use lib.ListN.{length, take, drop}
-use lib.Seq.{sets, sets-eq}
+use lib.ListN.{length, take}
+use lib.Seq.{sets}
 use lib.Dec.{T, ltb}
 use Rattle.trace.specs.declared.refusal.Refusal.{Refusal}
 use Rattle.table.specs.Node.{Node, node}
@@ -39,9 +39,6 @@ kind-low : (i k p q : ℕ) → node_refusal ltl_rules i (node k p q) false false
 unfolding node_refusal
 kind-low i k p q e = ltb-true k 7 (unless-none (known ltl_rules k) _ _ e).0
 
-sets_front : (w l : List ℕ) (n : ℕ) → n ≡ length w → n ≤ length l → sets l 0 w ≡ w ++ drop n l
-sets_front w l n d h = sets-eq w l 0 (omega arith) ∙ ap (λ (n : ℕ). w ++ drop n l) (omega arith)
-
 module _ (i k p q : ℕ) (l : List ℕ) where
   pub own_large : ltl_rules.most ≤ i → Answers i (node k p q) l (Err LtlLength) l
   own_large h = answers i (node k p q) l l (Err LtlLength) (some LtlLength) (rw (le-ltb i ltl_rules.most h)) refl refl
@@ -60,19 +57,14 @@ module _ (i k p q : ℕ) (l : List ℕ) where
       pub low : k < 7
       low = kind-low i k p q sound
 
-      -- The line was written aside: it is w.
-      module _ (w : List ℕ) (aside : w ≡ node_line i (node k p q)) where
-        pub no_room : length l < length w → Answers i (node k p q) l (Err LineRoom) l
-        no_room g =
-            answers i (node k p q) l l (Err LineRoom) none (fault ∙ sound)
-            (rw (lt-ltb (length l) (length (node_line i (node k p q))) (omega (arith, ap length aside)))) refl
+      pub no_room : length l < length (node_line i (node k p q)) → Answers i (node k p q) l (Err LineRoom) l
+      no_room g = answers i (node k p q) l l (Err LineRoom) none (fault ∙ sound) (rw (lt-ltb (length l) (length (node_line i (node k p q))) g)) refl
 
-        pub line_written : (n : ℕ) → n ≡ length w → n ≤ length l → {m : List ℕ} → m ≡ w ++ drop n l → Answers i (node k p q) l (Ok n) m
-        line_written n d g e =
-            let f : n ≡ length (node_line i (node k p q)) = d ∙ ap length aside in
-            answers i (node k p q) l _ (Ok n) none (fault ∙ sound)
-            (ap (λ (z : ℕ). Ok z) f ∙ rw (le-ltb (length l) (length (node_line i (node k p q))) (omega (arith, f))) refl)
-            (e ∙ sym (sets_front w l n d g) ∙ ap (sets l 0) aside)
+      pub line_written : (n : ℕ) → n ≡ length (node_line i (node k p q)) → n ≤ length l → {m : List ℕ} → m ≡ sets l 0 (node_line i (node k p q)) → Answers i (node k p q) l (Ok n) m
+      line_written n f g e =
+          answers i (node k p q) l _ (Ok n) none (fault ∙ sound)
+          (ap (λ (z : ℕ). Ok z) f ∙ rw (le-ltb (length l) (length (node_line i (node k p q))) (omega (arith, f))) refl)
+          e
 
 -- ── No two nodes are spelled alike ──
 

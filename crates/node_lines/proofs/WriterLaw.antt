@@ -2,21 +2,25 @@
 use mathlib.Core.Path.{◌≡◌, refl, ap, sym, subst, ◌∙◌}
 use mathlib.Core.Bool.{Bool, true, false}
 use mathlib.Core.List.{List, [], ◌∷◌, ◌++◌, map, append_assoc}
-use Prim.Native.Nat.{ℕ, zero, suc, ◌+◌, ◌<◌, ◌≤◌}
+use Prim.Native.Nat.{ℕ, zero, suc, ◌+◌, ◌<◌, ◌≤◌, min}
 use native.Mathlib.Omega.{arith}
 use borrow.Author.Tests.{ltb-true, ltb-false}
 use lib.Dec.{ltb}
 use native.Mathlib.Numerals.{add-one}
 use lib.ListN.{length, get_or, take, drop, length-append, get_or-eq_default}
-use lib.Seq.{drop-cons, take_all}
+use lib.Seq.{sets, sets-eq, drop-cons, take_at}
 use Rattle.table.specs.Node.{node}
 use Rattle.table.proofs.KindLaw.{◌⨾◌, each}
 use Rattle.text.specs.Text.{text}
 use Rattle.text.specs.Spelling.{digits, ending}
 use Rattle.text.proofs.NumberLaw.{digits-short}
-use Rattle.text.proofs.WriterLaw.{put_more}
+use Rattle.table.specs.Rules.{Use, shape_of}
+use Rattle.ltl.specs.Check.{ltl_rules}
+use Rattle.ltl.specs.Kind.{number}
+use Rattle.ltl.specs.declared.kind.Kind.{Kind}
+use Rattle.ltl.specs.declared.kind.Kind.TheVariants.{True, Var, Not, And, Or, Next, Until}
 use Rattle.node_lines.specs.Spelling.{ltl_word, ltl_places, node_line}
-use Rattle.node_lines.specs.Inner.Writer.{line_end}
+use Rattle.node_lines.specs.Inner.Writer.{used, Spelled, line_end}
 
 word-length : (k : ℕ) → length (ltl_word k) ≤ 5
 unfolding ltl_word
@@ -45,17 +49,57 @@ line_length i k p q h g f =
     subst (λ (x : List ℕ). length x ≤ 26) (sym (line_bytes i k p q))
     (simp length-append (omega (arith, digits-short 4 i (omega arith), word-length k, end-length (ltl_places k) p q g f)))
 
--- A number more, a space before it.
-pub place_more : (n i : ℕ) (l xs z : List ℕ) {m k : List ℕ} → i < length xs → m ≡ take n (l ++ text " ") → k ≡ take n (m ++ digits (get_or xs i 0))
-    → take n (l ++ line_end (drop i xs)) ≡ z → take n (k ++ line_end (drop (i + 1) xs)) ≡ z
-place_more n i l xs z h a b e =
-    let rest = line_end (drop (i + 1) xs) in
-    let next : drop i xs ≡ get_or xs i 0 ∷ drop (i + 1) xs = rw add-one (drop-cons xs i 0 h) in
-    let line : line_end (drop i xs) ≡ 32 ∷ (digits (get_or xs i 0) ++ rest) =
-    ap line_end next ∙ ap (λ (y : List ℕ). 32 ∷ y) (append_assoc (digits (get_or xs i 0)) _ (text "\n")) in
-    put_more n l (32 ∷ digits (get_or xs i 0)) rest (put_more n l (text " ") (digits (get_or xs i 0)) a b) refl ∙ ap (λ (y : List ℕ). take n (l ++ y)) (sym line) ∙ e
+-- A number more, a space before it, whatever it is put into.
+module _ {S : Type 0} (Put : S → List ℕ → S → Type 0) (join : (a b c : S) (v w : List ℕ) → Put a v b → Put b w c → Put a (v ++ w) c) where
+  pub place_more : (xs : List ℕ) (i : ℕ) → i < length xs → {a b c : S} → Put a (text " ") b → Put b (digits (get_or xs i 0)) c → (d : S) → Put c (line_end (drop (i + 1) xs)) d
+      → Put a (line_end (drop i xs)) d
+  place_more xs i h {a} {b} {c} p q d r =
+      let next : drop i xs ≡ get_or xs i 0 ∷ drop (i + 1) xs = rw add-one (drop-cons xs i 0 h) in
+      let line : line_end (drop i xs) ≡ text " " ++ (digits (get_or xs i 0) ++ line_end (drop (i + 1) xs)) =
+      ap line_end next ∙ ap (λ (y : List ℕ). 32 ∷ y) (append_assoc (digits (get_or xs i 0)) _ (text "\n")) in
+      subst (λ (w : List ℕ). Put a w d) (sym line) (join a b d (text " ") _ p (join b c d (digits (get_or xs i 0)) _ q r))
 
--- A line put into an empty vector with room for 32 bytes is all that it has.
-pub line_aside : (i k p q : ℕ) (l m : List ℕ) → i < 65536 → p < 65536 → q < 65536 → l ≡ [] → m ≡ take 32 (l ++ node_line i (node k p q)) → m ≡ node_line i (node k p q)
-line_aside i k p q l m h g f none e =
-    e ∙ ap (λ (x : List ℕ). take 32 (x ++ node_line i (node k p q))) none ∙ take_all 32 (node_line i (node k p q)) (omega (arith, line_length i k p q h g f))
+-- A line at the front of a list with room for it.
+module _ (i k p q : ℕ) (h : i < 65536) (g : p < 65536) (f : q < 65536) (l m : List ℕ) (n : ℕ) (room : length l ≡ 32) (is : m ≡ sets l 0 (node_line i (node k p q)))
+    (ends : n ≡ min (length (node_line i (node k p q))) (length l)) where
+  pub front_ends : n ≡ length (node_line i (node k p q))
+  front_ends = omega (arith, line_length i k p q h g f)
+
+  pub front_is : take n m ≡ node_line i (node k p q)
+  front_is =
+      let line = node_line i (node k p q) in
+      ap (take n) (is ∙ sets-eq line l 0 (omega (arith, line_length i k p q h g f))) ∙ take_at line _ n (sym front_ends)
+
+-- The places that a kind uses.
+pub places_used : (k : Kind) (h : Use × Use) → h ≡ shape_of ltl_rules (number k) → used h.0 + used h.1 ≡ ltl_places (number k)
+unfolding ltl_places
+places_used k h e = ap (λ (u : Use × Use). used u.0 + used u.1) e ∙ go k
+  where
+    go : (k : Kind) → used (shape_of ltl_rules (number k)).0 + used (shape_of ltl_rules (number k)).1 ≡ ltl_places (number k)
+    go True = refl
+    go Var = refl
+    go Not = refl
+    go And = refl
+    go Or = refl
+    go Next = refl
+    go Until = refl
+
+pub few_places : (k : Kind) → ltl_places (number k) ≤ 2
+unfolding ltl_places
+few_places True = omega arith
+few_places Var = omega arith
+few_places Not = omega arith
+few_places And = omega arith
+few_places Or = omega arith
+few_places Next = omega arith
+few_places Until = omega arith
+
+-- A number that is no kind.
+pub no_kind : (k : ℕ) → 7 ≤ k → Spelled k [] 0
+unfolding ltl_word ltl_places
+no_kind k h =
+    record {
+      word = sym (get_or-eq_default (text "true" ∷ text "var" ∷ text "not" ∷ text "and" ∷ text "or" ∷ text "next" ∷ text "until" ∷ []) [] h);
+      places = sym (get_or-eq_default (0 ∷ 1 ∷ 1 ∷ 2 ∷ 2 ∷ 1 ∷ 2 ∷ []) 0 h);
+      most = omega arith;
+    }

@@ -5,12 +5,13 @@ use mathlib.Core.List.{List, [], ◌∷◌, ◌++◌, append_assoc, append-nil}
 use mathlib.Core.Option.{none}
 use Prim.Native.Nat.{ℕ, zero, suc, ◌+◌, ◌*◌, ◌^◌, ◌<◌, ◌≤◌}
 use native.Mathlib.Omega.{arith}
+use native.Mathlib.Decide.{dec_lt}
 use native.Mathlib.Numerals.{add-one}
 use lib.ListN.{get_or, length, take, length-append, length-take}
 use Rattle.trace.specs.declared.refusal.Refusal.{Refusal}
 use Rattle.trace.specs.Refusal.{number}
 use Rattle.trace.proofs.NumberLaw.{number_small}
-use Rattle.table.specs.Node.{Node, node, count, kind_at, left_at, right_at, node_at}
+use Rattle.table.specs.Node.{count, kind_at, left_at, right_at, node_at}
 use Rattle.table.specs.Rules.{Use, unused, signal, operand, shape_of}
 use Rattle.table.specs.Inner.Place.{bound}
 use Rattle.table.proofs.CheckLaw.{left-fits, right_fits}
@@ -20,9 +21,9 @@ use Rattle.text.specs.Text.{text}
 use Rattle.text.specs.Spelling.{digits, brackets}
 use Rattle.node_lines.specs.Spelling.{node_line}
 use Rattle.text.proofs.NumberLaw.{digits-short}
-use Rattle.text.proofs.WriterLaw.{put_more}
 use Rattle.node_lines.proofs.WriterLaw.{line_length}
 use Rattle.printing.specs.Printed.{refused_text, verdict_text, trace_text, node_lines, table_text}
+use Rattle.printing.specs.Inner.{TablePut}
 use Rattle.printing.specs.Limits.{most_first, most_later, longest_verdict}
 
 refused-bytes : (line : ℕ) (x : Refusal) → refused_text line x ≡ text "(refused " ++ (digits line ++ (text " " ++ (digits (number x) ++ text ")\n")))
@@ -55,35 +56,49 @@ trace-short i v w h =
 abbrev table_head : List ℕ → List ℕ
 table_head t = brackets (text "ltl" ∷ digits (count t) ∷ []) ++ text "\n"
 
--- What was put is the head and the lines of the first i nodes.
-abbrev pub Printed : ℕ → List ℕ → List ℕ → ℕ → List ℕ → Type 0
-Printed n l t i m = m ≡ take n (l ++ (table_head t ++ node_lines t i))
+-- The head and the lines of the first i nodes were put.
+abbrev pub Printed : {S : Type 0} → (S → List ℕ → S → Type 0) → List ℕ → S → ℕ → S → Type 0
+Printed Put t a i b = Put a (table_head t ++ node_lines t i) b
 
-pub head_put : (n : ℕ) (l t : List ℕ) (s : ℕ) {m k j : List ℕ} → s ≡ count t → m ≡ take n (l ++ text "(ltl ") → k ≡ take n (m ++ digits s) → j ≡ take n (k ++ text ")\n")
-    → Printed n l t 0 j
-unfolding node_lines
-head_put n l t s {m} {k} e a b c =
-    let d : k ≡ take n (m ++ digits (count t)) = b ∙ ap (λ (x : ℕ). take n (m ++ digits x)) e in
-    put_more n l _ (text ")\n") (put_more n l (text "(ltl ") (digits (count t)) a d) c ∙ ap (λ (x : List ℕ). take n (l ++ x)) (simp (append_assoc, append-nil))
+-- Whatever texts are put into.
+module _ {S : Type 0} (Put : S → List ℕ → S → Type 0) (join : (a b c : S) (v w : List ℕ) → Put a v b → Put b w c → Put a (v ++ w) c) where
+  pub refused_put : (line : ℕ) (x : Refusal) {a b c d e f : S} → Put a (text "(refused ") b → Put b (digits line) c → Put c (text " ") d → Put d (digits (number x)) e
+      → Put e (text ")\n") f → Put a (refused_text line x) f
+  refused_put line x {a} {f = z} p q r s t =
+      subst (λ (w : List ℕ). Put a w z) (sym (refused-bytes line x)) (join _ _ _ _ _ p (join _ _ _ _ _ q (join _ _ _ _ _ r (join _ _ _ _ _ s t))))
 
--- A node more.
-pub node_put : (n : ℕ) (l t : List ℕ) (i j p q : ℕ) {m k : List ℕ} → j ≡ kind_at t i → p ≡ left_at t i → q ≡ right_at t i → Printed n l t i m
-    → k ≡ take n (m ++ node_line i (node j p q)) → Printed n l t (i + 1) k
-unfolding node_lines
-node_put n l t i j p q {m} {k} kind left right a b =
-    let same : node j p q ≡ node_at t i = λ u. node (kind u) (left u) (right u) in
-    let c : k ≡ take n (m ++ node_line i (node_at t i)) = b ∙ ap (λ (x : Node). take n (m ++ node_line i x)) same in
-    put_more n l (table_head t ++ node_lines t i) (node_line i (node_at t i)) a c
-    ∙ ap (λ (x : List ℕ). take n (l ++ x)) (append_assoc (table_head t) (node_lines t i) _)
-    ∙ ap (λ (x : ℕ). take n (l ++ (table_head t ++ node_lines t x))) (sym (add-one i))
+  pub trace_put : (i : ℕ) (v w : Result Bool Refusal) {a b c d e f g h : S} → Put a (text "(trace ") b → Put b (digits i) c → Put c (text " psl ") d → Put d (verdict_text v) e
+      → Put e (text " ltl ") f → Put f (verdict_text w) g → Put g (text ")\n") h → Put a (trace_text i v w) h
+  trace_put i v w {a} {h = z} p q r s t u x =
+      subst (λ (w : List ℕ). Put a w z) (sym (trace-bytes i v w))
+      (join _ _ _ _ _ p (join _ _ _ _ _ q (join _ _ _ _ _ r (join _ _ _ _ _ s (join _ _ _ _ _ t (join _ _ _ _ _ u x))))))
 
-pub all_put : (n : ℕ) (l t : List ℕ) {m : List ℕ} → Printed n l t (count t) m → m ≡ take n (l ++ table_text t)
-unfolding table_text
-all_put n l t a = a
+  pub head_put : (t : List ℕ) {a b c d : S} → Put a (text "(ltl ") b → Put b (digits (count t)) c → Put c (text ")\n") d → Printed Put t a 0 d
+  unfolding node_lines
+  head_put t {a} {d = z} p q r =
+      let e : table_head t ++ [] ≡ text "(ltl " ++ (digits (count t) ++ text ")\n") = simp (append_assoc, append-nil) in
+      subst (λ (w : List ℕ). Put a w z) (sym e) (join _ _ _ _ _ p (join _ _ _ _ _ q r))
 
--- What was put has no more bytes than what was there and the text.
-pub cut_short : (n : ℕ) (l w : List ℕ) {m : List ℕ} {k : ℕ} → m ≡ take n (l ++ w) → length w ≤ k → length m ≤ length l + k
-cut_short n l w {m} {k} e h = omega (arith, ap length e, length-take n (l ++ w), length-append l w)
+  -- A node more.
+  pub node_put : (t : List ℕ) (i : ℕ) {a b c : S} → Printed Put t a i b → Put b (node_line i (node_at t i)) c → Printed Put t a (i + 1) c
+  unfolding node_lines
+  node_put t i {a} {b} {c} p q =
+      let e : table_head t ++ node_lines t (i + 1) ≡ (table_head t ++ node_lines t i) ++ node_line i (node_at t i) =
+      ap (λ (n : ℕ). table_head t ++ node_lines t n) (add-one i) ∙ sym (append_assoc (table_head t) (node_lines t i) _) in
+      subst (λ (w : List ℕ). Put a w c) (sym e) (join _ _ _ _ _ p q)
+
+  pub all_put : (t : List ℕ) {a b : S} → Printed Put t a (count t) b → Put a (table_text t) b
+  unfolding table_text
+  all_put t p = p
+
+-- A vector has at most so many bytes more after the writer of a table.
+pub table_bound : {S : Type 0} (items : S → List ℕ) (n : ℕ) (t : List ℕ) {a b : S} → TablePut (λ x w y. items y ≡ take n (items x ++ w)) t a b
+    → length (items b) ≤ length (items a) + most_first
+table_bound items n t {a} {b} p = go (dec_lt ltl_rules.most (count t))
+  where
+    go : Dec (ltl_rules.most < count t) → length (items b) ≤ length (items a) + most_first
+    go (yes h) = omega (arith, ap length (ap items (p.none h)))
+    go (no h) = omega (arith, ap length (p.table (omega arith)), length-take n (items a ++ table_text t), length-append (items a) (table_text t), p.short (omega arith))
 
 -- A table whose lines have at most 26 bytes each.
 module _ (t : List ℕ) (few : count t ≤ ltl_rules.most) (one : (k : ℕ) → k < count t → length (node_line k (node_at t k)) ≤ 26) where

@@ -1,26 +1,24 @@
-// The text of a run's answers, put into a vector of bytes: by functions and not by Display, of whose text no contract can speak.
+// The text of a run's answers: by functions and not by Display, of whose text no contract can speak.
 #![tactic(auto)]
 
-ghost use Rattle.std.specs.Prelude.{◌≡◌, ◌++◌, take};
+ghost use Rattle.std.specs.Prelude.{◌≡◌};
 ghost use Rattle.printing.specs.Printed.{refused_text, verdict_text, trace_text};
 ghost use Rattle.printing.specs.Inner.{TablePut};
 
-use arrayvec::ArrayVec;
 use node_lines::put_line;
-use table::{NodeNo, node_in};
-use text::put::{put_number, put_text};
+use table::{Node, NodeNo, nodes_of};
+use text::put::{Sink, put_byte, put_number};
 use trace::{Refusal, Verdict};
 
 // `(refused L R)`
-#[tactic(auto, using(text::proofs::WriterLaw::putting), unfolding(crate::specs::Printed::refused_text))]
-pub fn put_refused<const N: usize>(out: &mut ArrayVec<u8, N>, line: u64, x: Refusal)
-    ensures { out.new.items ≡ take N (out.old.items ++ refused_text line x) }
+pub fn put_refused<S: Sink>(out: &mut S, line: u64, x: Refusal)
+    ensures { S.Put out.old (refused_text line x) out.new }
 {
-    put_text(out, b"(refused ");
+    out.put_text(b"(refused ");
     put_number(out, line);
-    put_text(out, b" ");
+    put_byte(out, b' ');
     put_number(out, u64::from(u8::from(x)));
-    put_text(out, b")\n");
+    out.put_text(b")\n");
 }
 
 // The word of a verdict.
@@ -36,33 +34,30 @@ fn word(v: Verdict) -> &'static [u8]
 }
 
 // `(trace I psl V ltl W)`
-#[tactic(auto, using(text::proofs::WriterLaw::putting), unfolding(crate::specs::Printed::trace_text))]
-pub fn put_trace<const N: usize>(out: &mut ArrayVec<u8, N>, trace: u64, psl: Verdict, ltl: Verdict)
-    ensures { out.new.items ≡ take N (out.old.items ++ trace_text trace psl ltl) }
+pub fn put_trace<S: Sink>(out: &mut S, trace: u64, psl: Verdict, ltl: Verdict)
+    ensures { S.Put out.old (trace_text trace psl ltl) out.new }
 {
-    put_text(out, b"(trace ");
+    out.put_text(b"(trace ");
     put_number(out, trace);
-    put_text(out, b" psl ");
-    put_text(out, word(psl));
-    put_text(out, b" ltl ");
-    put_text(out, word(ltl));
-    put_text(out, b")\n");
+    out.put_text(b" psl ");
+    out.put_text(word(psl));
+    out.put_text(b" ltl ");
+    out.put_text(word(ltl));
+    out.put_text(b")\n");
 }
 
 // `(ltl S)` and the node lines of a table; nothing where it has more nodes than a table may have.
-pub fn put_table<const N: usize>(out: &mut ArrayVec<u8, N>, t: &[u16])
-    ensures { TablePut t.now N out.old.items out.new.items }
+pub fn put_table<S: Sink>(out: &mut S, t: &[u16])
+    ensures { TablePut S.Put t.now out.old out.new }
 {
-    let nodes = t.len() / 3;
-    if ltl::MOST_NODES < nodes {
+    let nodes = nodes_of(t);
+    if ltl::MOST_NODES < nodes.len() {
         return;
     }
-    put_text(out, b"(ltl ");
-    put_number(out, nodes as u64);
-    put_text(out, b")\n");
-    for i in 0..nodes {
-        let no = NodeNo(i as u16);
-        let x = node_in(t, i);
-        put_line(out, no, x);
+    out.put_text(b"(ltl ");
+    put_number(out, nodes.len() as u64);
+    out.put_text(b")\n");
+    for (i, x) in nodes.iter().enumerate() {
+        put_line(out, NodeNo::from_index(i), Node::from(*x));
     }
 }

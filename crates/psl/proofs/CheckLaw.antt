@@ -3,6 +3,7 @@ use Rattle.trace.specs.declared.refusal.Refusal.TheVariants.{PslRoot, PslUse}
 use mathlib.Core.Path.{◌≡◌, refl, sym, ap, ◌∙◌, subst}
 use mathlib.Core.Bool.{Bool, true, false, not, ◌&&◌}
 use mathlib.Core.Option.{Option, none, some}
+use mathlib.Core.Logic.{◌⊎◌, inl, inr}
 use mathlib.Core.List.{List}
 use Prim.Native.Nat.{ℕ, zero, suc, ◌+◌, ◌*◌, ◌-◌, ◌≤◌, ◌<◌}
 use native.Mathlib.Omega.{arith}
@@ -12,7 +13,7 @@ use lib.ListN.{length, get_or, replicate, length-replicate, get_or-replicate}
 use borrow.Author.Tests.{eq-eqb, ne_eqb, eqb-true, not-true}
 use Rattle.trace.specs.declared.refusal.Refusal.{Refusal}
 use Rattle.std.proofs.Common.{Result, Ok, Err, IfOk}
-use Rattle.trace.specs.Refusal.{lowest}
+use Rattle.trace.specs.Refusal.{unless, lowest}
 use Rattle.table.specs.Answer.{checked}
 use Rattle.table.specs.Node.{count, kind_at, left_at, right_at}
 use Rattle.table.specs.Rules.{Use, unused, signal, operand, shape_of}
@@ -144,6 +145,24 @@ module _ (t : List ℕ) (i : ℕ) (u : Use × Use) (l r : ℕ) (eu : u ≡ shape
 
 -- ── The refusals after the nodes ──
 
+-- Where a node is not an operand once, there is a lowest one, which decides.
+uses_lowest : (t : List ℕ) (n : ℕ) → (lowest (use_refusal t) n ≡ none) ⊎ (lowest (use_refusal t) n ≡ some PslUse)
+unfolding lowest use_refusal
+uses_lowest t zero = inl refl
+uses_lowest t (suc n) =
+    elim (uses_lowest t n) [
+      | inl e ↦ rw e (elim (eqb (uses t n) 1) as (λ (b : Bool). (unless b PslUse none ≡ none) ⊎ (unless b PslUse none ≡ some PslUse)) [ true ↦ inl refl | false ↦ inr refl ])
+      | inr e ↦ rw e (inr refl)
+    ]
+
+pub uses-refused : (t : List ℕ) (j : ℕ) → j < count t - 1 → use_refusal t j ≡ some PslUse → tree_refusal t ≡ some PslUse
+unfolding tree_refusal
+uses-refused t j h d =
+    elim (uses_lowest t (count t - 1)) [
+      | inl e ↦ absurd (let z = none_below (use_refusal t) (count t - 1) j h e in cc)
+      | inr e ↦ rw e
+    ]
+
 -- Node j by its count.
 module _ {t c : List ℕ} (T : Tallied t (count t) c) (j : ℕ) (h : j < count t) where
   pub in_counts : j < length c
@@ -157,22 +176,14 @@ module _ {t c : List ℕ} (T : Tallied t (count t) c) (j : ℕ) (h : j < count t
   unfolding use_refusal
   misused e = rw (ne_eqb (uses t j) 1 (λ d. e (T.counts j in_counts ∙ d)))
 
-module _ (t : List ℕ) where
-  pub uses-refused : (j : ℕ) → j < count t - 1 → lowest (use_refusal t) j ≡ none → use_refusal t j ≡ some PslUse → tree_refusal t ≡ some PslUse
-  unfolding tree_refusal
-  uses-refused j h e d = rw (lowest-some (use_refusal t) j (count t - 1) PslUse h e d)
+module _ (t : List ℕ) (once : lowest (use_refusal t) (count t - 1) ≡ none) where
+  pub root-refused : is_boolean psl_rules t (count t - 1) ≡ true → tree_refusal t ≡ some PslRoot
+  unfolding tree_refusal root_refusal
+  root-refused b = rw (once, b)
 
-  module _ (j : ℕ) (z : j ≡ count t - 1) (e : lowest (use_refusal t) j ≡ none) where
-    once : lowest (use_refusal t) (count t - 1) ≡ none
-    once = subst (λ (m : ℕ). lowest (use_refusal t) m ≡ none) z e
-
-    pub root-refused : is_boolean psl_rules t (count t - 1) ≡ true → tree_refusal t ≡ some PslRoot
-    unfolding tree_refusal root_refusal
-    root-refused b = rw (once, b)
-
-    pub root_fine : is_boolean psl_rules t (count t - 1) ≡ false → tree_refusal t ≡ none
-    unfolding tree_refusal root_refusal
-    root_fine b = rw (once, b)
+  pub root_fine : is_boolean psl_rules t (count t - 1) ≡ false → tree_refusal t ≡ none
+  unfolding tree_refusal root_refusal
+  root_fine b = rw (once, b)
 
 pub psl-first : (t : List ℕ) (x : Refusal) → table_refusal psl_rules t ≡ some x → psl_refusal t ≡ some x
 unfolding psl_refusal

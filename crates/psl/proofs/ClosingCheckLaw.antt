@@ -15,8 +15,9 @@ use Rattle.logic.specs.Letter.{signals}
 use Rattle.table.specs.Node.{Node, node, numbers_of, count, ◌▸◌, last}
 use Rattle.table.specs.Rules.{Use, operand, unused, shape_of}
 use Rattle.table.specs.Check.{is_boolean, table_refusal}
-use Rattle.table.proofs.NodeLaw.{length_more}
-use Rattle.table.proofs.CheckLaw.{either-false, Fits, none-refused}
+use Rattle.std.proofs.SliceLists.{length_more}
+use Rattle.std.proofs.lemmas.Bool.{or_parts}
+use Rattle.table.proofs.CheckLaw.{Fits, none-refused}
 use Rattle.table.proofs.PassesLaw.{node_of, node_old, node_new, is_bool, Passes, PassFrom, pass_join, pass_more, count-numbers, node-numbers, sort_numbers, nodes_pass}
 use Rattle.logic.specs.Formula.{BoolExpr, btrue, var, bnot, band, Formula, weak, strong, fnot, fand, next, until, abort}
 use Rattle.psl.specs.Closing.{nodes_b, nodes, closing_nodes, large_signal_b, large_signal}
@@ -162,7 +163,7 @@ built_b (var n) w ns =
     build 1 n 0 (grown_none ns) (λ j. refl) (omega arith, record { low = l; sort = refl }, fits-unused refl) refl
 built_b (bnot b) w ns = one_built 2 (omega arith) refl refl refl (built_b b w ns)
 built_b (band b c) w ns =
-    let (p, q) = either-false (large_signal_b b) (large_signal_b c) w in
+    let (p, q) = or_parts (large_signal_b b) (large_signal_b c) w in
     two_built 3 (omega arith) refl refl refl (built_b b p ns) (built_b c q (nodes_b b ns))
 
 built : (f : Formula) → large_signal f ≡ false → (ns : List Node) → Built ns (nodes f ns) false
@@ -171,14 +172,14 @@ built (weak b) w ns = one_built 4 (omega arith) refl refl refl (built_b b w ns)
 built (strong b) w ns = one_built 5 (omega arith) refl refl refl (built_b b w ns)
 built (fnot f) w ns = one_built 6 (omega arith) refl refl refl (built f w ns)
 built (fand f g) w ns =
-    let (p, q) = either-false (large_signal f) (large_signal g) w in
+    let (p, q) = or_parts (large_signal f) (large_signal g) w in
     two_built 7 (omega arith) refl refl refl (built f p ns) (built g q (nodes f ns))
 built (next f) w ns = one_built 8 (omega arith) refl refl refl (built f w ns)
 built (until f g) w ns =
-    let (p, q) = either-false (large_signal f) (large_signal g) w in
+    let (p, q) = or_parts (large_signal f) (large_signal g) w in
     two_built 9 (omega arith) refl refl refl (built f p ns) (built g q (nodes f ns))
 built (abort f b) w ns =
-    let (p, q) = either-false (large_signal f) (large_signal_b b) w in
+    let (p, q) = or_parts (large_signal f) (large_signal_b b) w in
     two_built 10 (omega arith) refl refl refl (built f p ns) (built_b b q (nodes f ns))
 
 -- ── The check ──
@@ -215,7 +216,7 @@ module _ (ms : List Node) (b : Built [] ms false) (few : length ms ≤ psl_rules
   root-formula = ap (λ (n : ℕ). is_boolean psl_rules t (n - 1)) (count-numbers ms) ∙ sort_numbers psl_rules ms (last ms) (omega (arith, b.more)) ∙ b.sort
 
   fine : psl_refusal t ≡ none
-  fine = psl_then t nodes_fine ∙ root_fine t (count t - 1) refl (none-refused (use_refusal t) (count t - 1) uses_fine) root-formula
+  fine = psl_then t nodes_fine ∙ root_fine t (none-refused (use_refusal t) (count t - 1) uses_fine) root-formula
 
 -- A formula's closing table is accepted, within the limits.
 pub closing_accepted : (f : Formula) → length (closing_nodes f) ≤ psl_rules.most → large_signal f ≡ false → psl_refusal (numbers_of (closing_nodes f)) ≡ none

@@ -2,6 +2,8 @@ pub mod SumLaw
 pub mod CheckLaw
 pub mod PartLaw
 pub mod AcceptedLaw
+pub mod FrontLaw
+pub mod NodesLaw
 pub mod TreeLaw
 pub mod ClosingLaw
 pub mod ClosingCheckLaw

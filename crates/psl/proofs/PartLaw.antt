@@ -12,7 +12,7 @@ use Rattle.table.proofs.CheckLaw.{Fits, sort_is, kind_in, left-fits, right_fits}
 use Rattle.table.proofs.KindLaw.{◌⨾◌, each}
 use Rattle.table.proofs.ValueLaw.{Same, Local, root_value, value_of}
 use Rattle.logic.specs.Formula.{btrue, var, bnot, band, weak, strong, fnot, fand, next, until, abort}
-use Rattle.psl.specs.Table.{Part, boolean, formula, as_boolean, as_formula, part_of, formula_of}
+use Rattle.psl.specs.Table.{Part, boolean, formula, as_boolean, as_formula, part_of, boolean_of, formula_of}
 use Rattle.psl.specs.Check.{psl_rules}
 use Rattle.psl.specs.Inner.Parts.{part_at, boolean_at, formula_at}
 
@@ -57,6 +57,10 @@ kind_sort x l r =
 pub part-root : (t : List ℕ) → formula_of t ≡ formula_at t (count t - 1)
 unfolding formula_of part_at
 part-root t = ap as_formula (root_value (boolean btrue) part_of t)
+
+pub part-root_boolean : (t : List ℕ) → boolean_of t ≡ boolean_at t (count t - 1)
+unfolding boolean_of part_at
+part-root_boolean t = ap as_boolean (root_value (boolean btrue) part_of t)
 
 module _ (t : List ℕ) (e : table_refusal psl_rules t ≡ none) where
   pub part-node : (i : ℕ) → i < count t → part_at t i ≡ part_of (part_at t) (node_at t i)

@@ -20,6 +20,12 @@ unfolding total
 total-zero f zero h = refl
 total-zero f (suc n) h = omega (arith, total-zero f n (λ i l. h i (omega arith)), h n (omega arith))
 
+-- From the front.
+pub total_front : (f : ℕ → ℕ) (n : ℕ) → total f (suc n) ≡ f 0 + total (λ i. f (suc i)) n
+unfolding total
+total_front f zero = omega arith
+total_front f (suc n) = omega (arith, total_front f n)
+
 pub total_ones : (n : ℕ) → total (λ i. 1) n ≡ n
 unfolding total
 total_ones zero = refl

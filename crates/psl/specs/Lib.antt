@@ -6,5 +6,6 @@ pub mod Passes
 pub mod Kind
 pub mod Answer
 pub mod Accepted
+pub mod Nodes
 pub mod Claims
 pub mod Inner

@@ -51,6 +51,9 @@ kind_of_formula (next f) = 8
 kind_of_formula (until f g) = 9
 kind_of_formula (abort f b) = 10
 
--- The formula of a table is its root's.
+-- The formula of a table is its root's. A table that ends with a Boolean, as the front of an accepted one may, has that Boolean.
 unfoldable pub formula_of : List ℕ → Formula
 formula_of t = as_formula (root (boolean btrue) part_of t)
+
+unfoldable pub boolean_of : List ℕ → BoolExpr
+boolean_of t = as_boolean (root (boolean btrue) part_of t)

@@ -2,6 +2,7 @@
 #![tactic(auto)]
 
 mod kind;
+mod node;
 
 ghost use Rattle.std.specs.Prelude.{◌≡◌, ◌&&◌, ◌<◌, ◌≤◌, IfOk};
 ghost use Rattle.trace.specs.Refusal.{lowest};
@@ -14,10 +15,12 @@ ghost use Rattle.psl.specs.Inner.Counts.{Counted, CountRoom, Tallied, RoomForNod
 ghost use Rattle.psl.specs.Answer.{PslChecks};
 
 pub use kind::Kind;
-use table::{Checked, Node, NodeNo, Place, Table};
+pub use node::{BooleanNode, BooleanParts, FormulaNode, FormulaParts};
+use table::{Checked, FEW_NODES, Node, NodeNo, Place, Table};
 use trace::Refusal;
 
-// How many of the kinds, the first, are Booleans.
+// How many of the kinds, the first, are Booleans. By numbers and no match on kinds: the check asks it of lists that nothing has passed, whose numbers
+// need be no kinds, and in its loop it is a comparison without a branch.
 const BOOLEANS: u16 = 4;
 
 // The most nodes of a table.
@@ -31,8 +34,8 @@ fn named_fits(p: Place, n: u16, t: &[u16]) -> bool
     requires { operand_or (use_of p) n 0 < count t.now }
     ensures { result ≡ sort_fits (use_of p) (is_boolean psl_rules t.now n) }
 {
-    let m = p.operand(n) as usize;
-    p.sort_fits(t[3 * m] < BOOLEANS)
+    let m = NodeNo(p.operand(n));
+    p.sort_fits(t[m.start()] < BOOLEANS)
 }
 
 // All four tests at once, and for both places, without a branch on what a place holds: first that it is low enough, then its sort.
@@ -52,20 +55,22 @@ fn count_place(p: Place, n: u16, c: &mut [u16])
     requires { CountRoom (use_of p) n c.old }
     ensures { Counted (use_of p) n c.old c.new }
 {
-    let at = p.operand(n) as usize;
-    let more = p.is_operand() as u16;
+    let at = NodeNo(p.operand(n)).index();
+    let more = u16::from(p.is_operand());
     c[at] += more;
 }
 
 // The lowest node's refusal, if one is refused, or how often each node is an operand, counted from nothing.
+// The loop stands beside that of LTL, which counts nothing: one for both would take a closure that can end it, and is no plainer. List and counts are no
+// struct with `Tallied` as its ghost field: between the two places of a node they are those of no number of nodes.
 fn count_uses(t: &[u16], c: &mut [u16]) -> Result<(), Refusal>
     requires { Tallied t.now 0 c.old }
     ensures answer { result ≡ checked (lowest (refusal_at psl_rules t.now) (count t.now)) }
     ensures counts { IfOk result (λ x. Tallied t.now (count t.now) c.new) }
 {
-    for i in 0..t.len() / 3 {
-        let own = NodeNo(i as u16);
-        let n = table::node_in(t, i);
+    for (i, x) in table::nodes_of(t).iter().enumerate() {
+        let own = NodeNo::from_index(i);
+        let n = Node::from(*x);
         let Ok(kind) = Kind::try_from(n.kind) else {
             return table::refused_at::<Kind>(t, own);
         };
@@ -79,16 +84,14 @@ fn count_uses(t: &[u16], c: &mut [u16]) -> Result<(), Refusal>
     Ok(())
 }
 
-// Every node but the last is an operand once, by the counts c, and the last is a formula.
+// Every node but the last is an operand once, by the counts c, and the last is a formula. A table is a list of numbers here too, as C lends it.
 fn check_uses(t: &[u16], c: &[u16]) -> Result<(), Refusal>
     requires { Tallied t.now (count t.now) c.now }
     ensures { result ≡ checked (tree_refusal t.now) }
 {
     let last = t.len() / 3 - 1;
-    for j in 0..last {
-        if c[j] != 1 {
-            return Err(Refusal::PslUse);
-        }
+    if !c[..last].iter().all(|uses| *uses == 1) {
+        return Err(Refusal::PslUse);
     }
     if t[3 * last] < BOOLEANS {
         return Err(Refusal::PslRoot);
@@ -105,9 +108,6 @@ fn check_nodes<const N: usize>(t: &[u16]) -> Result<(), Refusal>
     count_uses(t, &mut c[..])?;
     check_uses(t, &c[..])
 }
-
-// What a small table has at most.
-const FEW_NODES: usize = 128;
 
 // Refusals 1 to 8. A small table has a small list of counts: it is cleared at each check.
 pub fn check_psl(t: &[u16]) -> Result<(), Refusal>

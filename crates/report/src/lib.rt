@@ -1,15 +1,38 @@
-// What the programs of cases print.
+// What the programs of cases share.
 #![tactic(auto)]
 
-use std::fmt::Display;
-use std::io;
+ghost use Rattle.std.specs.Prelude.{◌≡◌, [], ℕ, ◌<◌, ◌≤◌, get_or};
+ghost use Rattle.report.specs.Shared.{code, tower_node};
 
-// A line: a name and a number.
-pub fn say(rt: &impl Print, name: &str, x: u64) -> io::Result<()> {
-    println!(rt; "{name} {x}")
+use std::fmt::Display;
+use std::{fmt, io};
+use table::NodeNo;
+use trace::Refusal;
+
+// An answer as a number: its value, or the number of its refusal above so many.
+pub fn code(answer: Result<u64, Refusal>, above: u16) -> u64
+    ensures { result ≡ code answer above }
+{
+    match answer {
+        Ok(n) => n,
+        Err(x) => u64::from(above) + u64::from(u8::from(x)),
+    }
 }
 
-// A line of numbers.
+// Numbers or letters in a row, a space before each.
+#[derive(Clone, Copy)]
+pub struct Row<'a, T>(pub &'a [T]);
+
+impl<'a, T: Display> Display for Row<'a, T> {
+    fn fmt<W: fmt::Write>(&self, f: &mut fmt::Formatter<W>) -> fmt::Result {
+        for x in self.0 {
+            write!(f, " {x}")?;
+        }
+        Ok(())
+    }
+}
+
+// A line of numbers, a space behind each. It stands beside `Row`, since the stored outputs have both.
 pub fn show<T: Display>(rt: &impl Print, l: &[T]) -> io::Result<()> {
     for x in l {
         print!(rt; "{x} ")?;
@@ -17,11 +40,24 @@ pub fn show<T: Display>(rt: &impl Print, l: &[T]) -> io::Result<()> {
     println!(rt)
 }
 
-// A line: a name and letters.
-pub fn show_letters<T: Display>(rt: &impl Print, name: &str, l: &[T]) -> io::Result<()> {
-    print!(rt; "{name}")?;
-    for x in l {
-        print!(rt; " {x}")?;
+// Node i of a tower.
+fn tower_node(i: usize, second: u16, later: u16) -> [u16; 3]
+    ensures { i < 65536 → result ≡ tower_node second later i }
+{
+    match i {
+        0 => [0, 0, 0],
+        1 => [second, 0, 0],
+        _ => [later, NodeNo::from_index(i - 1).0, 0],
     }
-    println!(rt)
+}
+
+// The nodes of a table: node 0 is true, node 1 of the one kind and each later node of the other, and each names the one before it. The kinds are numbers: some towers are of PSL and some of LTL.
+pub fn tower<const N: usize>(second: u16, later: u16) -> [[u16; 3]; N]
+    ensures { N ≤ 65536 → (i : ℕ) → i < N → get_or result i [] ≡ tower_node second later i }
+{
+    let mut nodes = [[0u16; 3]; N];
+    for (i, node) in nodes.iter_mut().enumerate() {
+        *node = tower_node(i, second, later);
+    }
+    nodes
 }

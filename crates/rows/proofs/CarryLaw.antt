@@ -1,6 +1,6 @@
 -- Until as the carries of a sum: the sum of f | g and g, and what comes in below the lowest bit.
-use Rattle.std.proofs.Common.{◌≡◌, ℕ, zero, suc, ◌+◌, ◌-◌, ◌*◌, ◌/◌, ◌%◌, ◌^◌, ◌<◌, Bool, not, ◌&&◌, ◌||◌, eqb, sym, refl, ap, ◌∙◌, ap₂, add_assoc, mod-lt, zero-lt-suc, div-add-mod', arith, pow_pos}
-use native.Mathlib.Nat.{mul-add-mod_self_right}
+use Rattle.std.proofs.Common.{◌≡◌, ℕ, zero, suc, ◌+◌, ◌-◌, ◌/◌, ◌%◌, ◌^◌, ◌<◌, Bool, not, ◌&&◌, ◌||◌, eqb, sym, refl, ap, ◌∙◌, ap₂, mod-lt, zero-lt-suc, arith, pow_pos}
+use native.Mathlib.Nat.{mod-add-mod}
 use lib.Bits.{bit_and, bit_or, or_shr, or_mod, mask_lt}
 use Rattle.logic.specs.Letter.{bit}
 use Rattle.trace.specs.Limits.{most_letters}
@@ -86,12 +86,6 @@ found_step (suc m) f g c h =
 
 -- ── In a word ──
 
--- A sum taken twice modulo n is taken once.
-mod_twice : (a b n : ℕ) → (a % n + b) % n ≡ (a + b) % n
-mod_twice a b n =
-    sym (mul-add-mod_self_right (a / n) n (a % n + b))
-    ∙ ap (λ (x : ℕ). x % n) (sym (add_assoc (a / n * n) (a % n) b) ∙ ap (◌+ b) (div-add-mod' a n))
-
 module _ (f g carry : ℕ) where
   abbrev word : ℕ
   word = ((bit_or f g + g) % 2 ^ most_letters + bit_and carry 1) % 2 ^ most_letters
@@ -105,7 +99,7 @@ module _ (f g carry : ℕ) where
       ∙ ap (bit g m ||◌) (bit-and f _ m ∙ ap (bit f m &&◌) (bit_not most_letters m word (mod-lt _ (pow_pos most_letters)) h ∙ ap not (in_word m h)))
     where
       in_word : (m : ℕ) → m < most_letters → bit word m ≡ bit (sum f g (bit_and carry 1)) m
-      in_word m h = ap (λ (x : ℕ). bit x m) (mod_twice (bit_or f g + g) (bit_and carry 1) (2 ^ most_letters)) ∙ bit-mod (sum f g (bit_and carry 1)) most_letters m h
+      in_word m h = ap (λ (x : ℕ). bit x m) (mod-add-mod (bit_or f g + g) (2 ^ most_letters) (bit_and carry 1)) ∙ bit-mod (sum f g (bit_and carry 1)) most_letters m h
 
   pub swept : Swept f g (bit carry 0) row
   swept =

@@ -28,14 +28,11 @@ fn signal_after(before: Row, s: &[Letter], k: u16) -> Row
     requires { k < signals }
     ensures { (t : List ℕ) → SignalIn t k before → SignalIn (t ++ s.now) k result }
 {
-    let mut w = before;
-    for letter in s {
-        w = (w << 1) | Row::from((letter >> k) & 1);
-    }
-    w
+    s.iter().fold(before, |w, letter| (w << 1) | Row::from((letter >> k) & 1))
 }
 
-// The row of signal k.
+// The row of signal k. Not inlined: inside the loop over a table's nodes it took registers from that loop, which took a tenth longer on large tables.
+#[inline(never)]
 fn signal_row(trace: TraceView<'_>, k: u16) -> Row
     requires { k < signals }
     ensures { SignalIn (trace.entry.lead.now ++ trace.entry.cycle.now) k result }
@@ -90,7 +87,7 @@ pub fn gate(a: Row, b: Row, r: Row) -> Row
     a | (b & !r)
 }
 
-// The row of next, on every trace with a loop of that length: each bit from the one below it, and on a loop the lowest from the loop's first letter.
+// The row of next, on every trace with a loop of that length (a premise of three promises, of pairs of traces, for which no type would be plainer): each bit from the one below it, and on a loop the lowest from the loop's first letter.
 pub fn next_row(a: Row, trace: TraceView<'_>) -> Row
     ensures { (t : TraceView) (x : Ltl) → length t.cycle.now ≡ length trace.entry.cycle.now → TellsOn t a x → TellsOn t result (lnext x) }
 {
@@ -120,7 +117,7 @@ pub fn until_row(f: Row, g: Row, trace: TraceView<'_>) -> Row
     }
 }
 
-// The row of an LTL node of a kind that is not a signal's, by its operands' rows a and b.
+// The row of an LTL node of a kind that is not a signal's, by its operands' rows a and b. Of a signal's kind nothing is promised: an enum without it would be a second list of kinds.
 pub fn node_row(kind: Kind, a: Row, b: Row, trace: TraceView<'_>) -> Row
     ensures { (t : TraceView) (l : ℕ) → length t.cycle.now ≡ length trace.entry.cycle.now → FitsRow t.lead.now t.cycle.now → (kind ≢ Var)
         → TellsNode t.lead.now t.cycle.now (number kind) l a b result }

@@ -28,10 +28,8 @@ use Rattle.run.specs.Inner.{Starts, goes, goes_on, Stores, PrintedSoFar, Going, 
 use Rattle.run.specs.declared.Stage.{Stage}
 use Rattle.run.specs.declared.Stage.TheVariants.{First, Later, Ended}
 use Rattle.run.specs.declared.Run.{Run}
-use Rattle.text.proofs.WriterLaw.{put_join}
-
-pub never : {b : Bool} → b ≡ true → b ≡ false → ⊥
-never {b} p q = let z : ◌≡◌ {A = ℕ} 0 1 = cc in omega arith
+use Rattle.text.specs.Inner.Put.{put_join}
+use Rattle.std.proofs.lemmas.Bool.{both_ways}
 
 -- ── Nothing is taken yet ──
 
@@ -97,11 +95,11 @@ module _ (read done : List ℕ) (s r : Run) (number : r.number ≡ s.number + 1)
               printed = subst (λ (ls : List (List ℕ)). PrintedSoFar ls (done ++ r.out.items) r.stage) (sym ended)
                   (f, [], a, subst (Stores f) (sym e) b, text ∙ out ∙ ap table_text b.translated ∙ sym (append-nil (table_text (emitted f))), refl);
             };
-            over = λ m. absurd (never (ap goes e) m);
+            over = λ m. absurd (both_ways _ m (ap goes e));
           }
       go Ended e (x, h, out) =
           record {
-            going = λ m. absurd (never m (ap goes e));
+            going = λ m. absurd (both_ways _ (ap goes e) m);
             over = λ _. refused-runs (read ▸ 10) (open_line read) (done ++ r.out.items) x ended (whole (Err x) h) (text ∙ out);
           }
 
@@ -143,7 +141,7 @@ prints out stage (l ∷ ls) h (f, rest, a, _, c, p) = inl (f, rest, a, c, p)
 
 module _ {read out : List ℕ} (s : Run) (g : Going read out s) where
   -- No line is open: the lines that have ended are all.
-  pub end_empty : s.line.items ≡ [] → (s.number ≡ 1 → ⊥) → Runs read out
+  pub end_empty : s.line.items ≡ [] → (s.stage ≡ First → ⊥) → Runs read out
   end_empty f h = go (ended_lines read) refl g.printed
     where
       empty : open_line read ≡ []
@@ -154,11 +152,11 @@ module _ {read out : List ℕ} (s : Run) (g : Going read out s) where
           nil (b ∷ o) e = let z : suc (length (take most_bytes o)) ≡ 0 = ap length e in absurd (omega arith)
 
       go : (ls : List (List ℕ)) → ended_lines read ≡ ls → PrintedSoFar ls out s.stage → Runs read out
-      go [] e t = absurd (h (g.counted ∙ ap (λ (ls : List (List ℕ)). 1 + length ls) e))
+      go [] e t = absurd (h t.0)
       go (l ∷ ls) e t = subst (λ (ms : List (List ℕ)). Prints ms out) (sym (no_last read l ls e empty)) (prints out s.stage (l ∷ ls) (omega arith) t)
 
   -- The open line is answered as if byte 10 ended it.
-  pub end_open : {out' : List ℕ} (r : Run) → (s.line.items ≡ [] → s.number ≡ 1) → GoingOrOver (read ▸ 10) out' r → Runs read out'
+  pub end_open : {out' : List ℕ} (r : Run) → (s.line.items ≡ [] → s.stage ≡ First) → GoingOrOver (read ▸ 10) out' r → Runs read out'
   end_open {out'} r h a = go (goes_on r) refl
     where
       same : input_lines read ≡ ended_lines (read ▸ 10)
@@ -168,7 +166,7 @@ module _ {read out : List ℕ} (s : Run) (g : Going read out s) where
           by [] e = only_line read e
           by (l ∷ ls) e =
               last-ends read (λ n. let z : ◌≡◌ {A = ℕ} 0 1 = cc in omega arith)
-              (λ o. let short : s.line.items ≡ [] = g.kept ∙ ap (take kept_bytes) o in omega (arith, h short, g.counted, ap length e))
+              (λ o. let short : s.line.items ≡ [] = g.kept ∙ ap (take kept_bytes) o in let none = (none_ended (ended_lines read) out s.stage (h short) g.printed).0 in omega (arith, ap length none, ap length e))
 
       go : (m : Bool) → goes_on r ≡ m → Runs read out'
       go true e = subst (λ (ls : List (List ℕ)). Prints ls out') (sym same) (prints out' r.stage (ended_lines (read ▸ 10)) (some-ended read) (a.going e).printed)

@@ -7,6 +7,7 @@ use native.Mathlib.Omega.{arith}
 use native.Mathlib.Numerals.{add-one}
 use borrow.Author.Tests.{ne_eqb}
 use lib.Dec.{eqb}
+use Rattle.std.proofs.lemmas.Bool.{both_ways}
 use lib.ListN.{length, take, drop, get_or, take-append-drop}
 use lib.Seq.{take-suc, take_all}
 use Rattle.table.specs.Node.{◌▸◌}
@@ -15,12 +16,12 @@ use Rattle.answers.specs.Answer.{later_text}
 use Rattle.answers.specs.Whole.{Runs}
 use Rattle.answers.proofs.ClaimsLaw.{later-short}
 use Rattle.run.specs.Bounds.{most_block, most_gathered, gathering_room, most_lines}
-use Rattle.run.specs.Inner.{goes, goes_on, Going, GoingOrOver, Gathered, FirstDone, AnsweredIn, Answered, LineDone, Kept, Fed, Finished, Ends, Advanced, Turns, no_turn, one_turn}
+use Rattle.run.specs.Inner.{goes, goes_on, none_open_in, none_open, Going, GoingOrOver, Gathered, FirstDone, AnsweredIn, Answered, LineDone, Kept, Fed, Finished, Ends, Advanced, Turns, no_turn, one_turn}
 use Rattle.run.specs.declared.Stage.TheVariants.{First, Later, Ended}
 use Rattle.run.specs.declared.Stage.{Stage}
 use Rattle.run.specs.declared.Run.{Run}
 use Rattle.run.proofs.BoundsLaw.{put_fits}
-use Rattle.run.proofs.ProgressLaw.{never, going_start, going-byte, first_ends, going_later, end_empty, end_open}
+use Rattle.run.proofs.ProgressLaw.{going_start, going-byte, first_ends, going_later, end_empty, end_open}
 
 -- ── A line's end ──
 
@@ -50,10 +51,10 @@ module _ (s m r : Run) (g : Gathered most_gathered s) (more : goes_on s ≡ true
             later = λ f. let q = sym e ∙ sym same ∙ sym stage ∙ f in let z : ◌≡◌ {A = ℕ} 0 1 = cc in omega arith;
             tells = λ read done a. record {
               going = λ _. going_later read done s r counted line a t h.answer h.answers e (stage ∙ same) (out ∙ text);
-              over = λ n. absurd (never (ap goes (stage ∙ same) ∙ more) n);
+              over = λ n. absurd (both_ways _ n (ap goes (stage ∙ same) ∙ more));
             };
           }
-      go Ended e h = absurd (never more (ap goes e))
+      go Ended e h = absurd (both_ways _ (ap goes e) more)
 
 -- ── Nothing is gathered ──
 
@@ -70,15 +71,33 @@ module _ (s : Run) (g : Gathered 0 s) where
 
   -- ── The input's end ──
 
-  pub nothing_open : s.line.items ≡ [] → (s.number ≡ 1 → ⊥) → Finished s s
-  nothing_open line many read done a = subst (Runs read) (sym (none_gathered done)) (end_empty s a line many)
+  nothing_open : s.line.items ≡ [] → (s.stage ≡ First → ⊥) → Finished s s
+  nothing_open line later read done a = subst (Runs read) (sym (none_gathered done)) (end_empty s a line later)
 
-  pub line_open : (r : Run) → (s.line.items ≡ [] → s.number ≡ 1) → LineDone s r → Finished s r
-  line_open r one d read done a = end_open s a r one (d.tells read done (none_yet a))
+  line_open : (r : Run) → (s.line.items ≡ [] → s.stage ≡ First) → LineDone s r → Finished s r
+  line_open r first d read done a = end_open s a r first (d.tells read done (none_yet a))
 
 pub emptied : (l : List ℕ) → true ≡ eqb (length l) 0 → l ≡ []
 emptied [] e = refl
-emptied (x ∷ l) e = absurd (never (sym e) (ne_eqb (length (x ∷ l)) 0 (λ h. omega (arith, h))))
+emptied (x ∷ l) e = absurd (both_ways _ (ne_eqb (length (x ∷ l)) 0 (λ h. omega (arith, h))) (sym e))
+
+none_is_open : (st : Stage) (o : List ℕ) → none_open_in st o ≡ true → (o ≡ []) × (st ≡ First → ⊥)
+none_is_open First o e = absurd (both_ways false refl e)
+none_is_open (Later t) o e = (emptied o (sym e), λ f. let z : ◌≡◌ {A = ℕ} 0 1 = cc in omega arith)
+none_is_open Ended o e = absurd (both_ways false refl e)
+
+first_open : (st : Stage) (o : List ℕ) → goes st ≡ true → none_open_in st o ≡ false → o ≡ [] → st ≡ First
+first_open First o m e n = refl
+first_open (Later t) o m e n = absurd (both_ways (eqb (length o) 0) e (ap (λ (l : List ℕ). eqb (length l) 0) n))
+first_open Ended o m e n = absurd (both_ways false refl m)
+
+-- The input ends where no line is open, and where one is.
+module _ (s : Run) (g : Gathered 0 s) where
+  pub finish_whole : none_open s ≡ true → Finished s s
+  finish_whole e = let (line, later) = none_is_open s.stage s.line.items e in nothing_open s g line later
+
+  pub finish_open : (r : Run) → goes_on s ≡ true → none_open s ≡ false → LineDone s r → Finished s r
+  finish_open r m e = line_open s g r (first_open s.stage s.line.items m e)
 
 -- ── The loop over a block ──
 
@@ -141,7 +160,7 @@ module _ {block : List ℕ} {s r : Run} {i : ℕ} (f : Feeding block s r i) (h :
     pub feeding_over : goes_on r' ≡ false → Fed block s r'
     feeding_over m read done a =
         record {
-          going = λ g. absurd (never g m);
+          going = λ g. absurd (both_ways _ m g);
           over = λ _ rest.
               let all : (read ++ take (i + 1) block) ++ (drop (i + 1) block ++ rest) ≡ (read ++ block) ++ rest =
               sym (append_assoc (read ++ take (i + 1) block) (drop (i + 1) block) rest)
@@ -153,7 +172,7 @@ pub feeding_end : {block : List ℕ} {s : Run} (r : Run) (i : ℕ) → Feeding b
 feeding_end {block} r i f h read done a =
     record {
       going = λ _. subst (λ (x : List ℕ). Going (read ++ x) (done ++ r.out.items) r) (take_all i block h) (f.tells read done a);
-      over = λ m. absurd (never f.more m);
+      over = λ m. absurd (both_ways _ m f.more);
     }
 
 -- ── A block ──
@@ -161,14 +180,6 @@ feeding_end {block} r i f h read done a =
 -- Gathering begins anew: the relation does not speak of what is gathered.
 pub anew : {read done : List ℕ} (s r : Run) → r.stage ≡ s.stage → r.number ≡ s.number → r.line.items ≡ s.line.items → Going read done s → Going read done r
 anew s r stage number line a = record { counted = number ∙ a.counted; kept = line ∙ a.kept; printed = rw stage a.printed }
-
-pub advance_end : {block : List ℕ} {s s' : Run} (r r' : Run) → block ≡ [] → ((read done : List ℕ) → Going read done s → Going read done s') → Finished s' r → r'.stage ≡ Ended
-    → r'.out.items ≡ r.out.items → Advanced block s r' r'.out.items
-advance_end r r' e again d ended out =
-    record {
-      goes = λ m. absurd (never m (ap goes ended));
-      ends = λ _ read done a. subst (λ (x : List ℕ). Ends read x (done ++ r'.out.items)) (sym e) (subst (λ (x : List ℕ). Runs read (done ++ x)) (sym out) (d read done (again read done a)));
-    }
 
 pub advance_on : {block : List ℕ} {s s' r : Run} → (block ≡ [] → ⊥) → ((read done : List ℕ) → Going read done s → Going read done s') → Fed block s' r → Advanced block s r r.out.items
 advance_on {block} {r = r} some again d =

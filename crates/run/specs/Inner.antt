@@ -1,5 +1,5 @@
 -- What the functions of a run promise: read this after `Whole` of `answers`.
-use Rattle.std.specs.Prelude.{◌≡◌, Bool, true, false, List, [], ◌∷◌, ◌++◌, ℕ, ◌+◌, ◌≤◌, length, take, Result, Ok, Err}
+use Rattle.std.specs.Prelude.{◌≡◌, Bool, true, false, List, [], ◌∷◌, ◌++◌, ℕ, ◌+◌, ◌≤◌, length, take, eqb, Result, Ok, Err}
 use Rattle.trace.specs.declared.refusal.Refusal.{Refusal}
 use Rattle.table.specs.Node.{◌▸◌}
 use Rattle.logic.specs.Formula.{Formula}
@@ -33,6 +33,15 @@ goes Ended = false
 
 abbrev pub goes_on : Run → Bool
 goes_on s = goes s.stage
+
+-- Whether no line is open: line 1 has ended and was not refused, and no byte of a further line was taken.
+abbrev pub none_open_in : Stage → List ℕ → Bool
+none_open_in First o = false
+none_open_in (Later t) o = eqb (length o) 0
+none_open_in Ended o = false
+
+abbrev pub none_open : Run → Bool
+none_open s = none_open_in s.stage s.line.items
 
 -- What the last block printed.
 abbrev pub gathered : Run → List ℕ

@@ -22,7 +22,7 @@ fn judge_both(tables: &Tables, trace: TraceView<'_>) -> Verdicts
     }
 }
 
-// Both verdicts on a line's trace, or its refusal.
+// Both verdicts on a line's trace, or its refusal. The reader is lent lists, as C lends it some, and tells how much of them is in use.
 fn later_line(line: &[u8], tables: &Tables) -> Result<Verdicts, Refusal>
     ensures { (f : Formula) → TablesOf f tables.now.psl.items tables.now.ltl.items → LaterAnswer f line.now result }
 {

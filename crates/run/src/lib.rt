@@ -6,14 +6,14 @@ mod later;
 ghost use Rattle.std.specs.Prelude.{◌≡◌, true, false, [], ◌∷◌, ◌++◌, ◌+◌, ◌<◌, ◌≤◌, take, length};
 ghost use Rattle.printing.specs.Limits.{most_first};
 ghost use Rattle.run.specs.Bounds.{most_block, most_gathered, most_lines};
-ghost use Rattle.run.specs.Inner.{Starts, goes_on, gathered, Gathered, Accepts, FirstDone, AnsweredIn, Answered, LineDone, Kept, Fed, Finished, Taken};
+ghost use Rattle.run.specs.Inner.{Starts, goes_on, none_open, gathered, Gathered, Accepts, FirstDone, AnsweredIn, Answered, LineDone, Kept, Fed, Finished, Taken};
 
 use arrayvec::ArrayVec;
 use later::answer_later;
 use line_one::Tables;
 use printing::{put_refused, put_table};
-use std::fmt;
 use text::scan::MOST_BYTES;
+use thiserror::Error;
 
 // A line's bytes that are kept: one more than a line may have, so that a longer one is seen to be.
 const LINE_ROOM: usize = MOST_BYTES + 1;
@@ -44,24 +44,19 @@ pub enum Stage {
 }
 
 // Why a block is not taken.
-#[derive(Clone, Copy, Debug, PartialEq, Eq)]
+#[derive(Clone, Copy, Debug, PartialEq, Eq, Error)]
 pub enum NotTaken {
+    #[error("a block that is too long")]
     LongBlock,
+    #[error("more lines than can be counted")]
     ManyLines,
+    #[error("the run has ended")]
     RunEnded,
 }
 
-impl fmt::Display for NotTaken {
-    fn fmt<W: fmt::Write>(&self, f: &mut fmt::Formatter<W>) -> fmt::Result {
-        match self {
-            NotTaken::LongBlock => write!(f, "a block that is too long"),
-            NotTaken::ManyLines => write!(f, "more lines than can be counted"),
-            NotTaken::RunEnded => write!(f, "the run has ended"),
-        }
-    }
-}
-
 // What a run is made of between two bytes: the number of the open line, from 1, its bytes that are kept, and the bytes gathered for output.
+// How many are gathered (`Gathered`), that the run goes on and that a line can be counted is asked for in three private `requires`: the bounds grow with each byte of a block, and the rest
+// holds before those calls alone, so no invariant of a run can say it.
 #[derive(Drop)]
 pub struct Run {
     stage: Stage,
@@ -70,7 +65,7 @@ pub struct Run {
     out: ArrayVec<u8, OUT_ROOM>,
 }
 
-// The stage after line 1, and its answer's text.
+// The stage after line 1, and its answer's text. That nothing is gathered before is asked for by this and by what calls it.
 fn answer_first(line: &[u8], out: &mut ArrayVec<u8, OUT_ROOM>) -> Stage
     requires { out.old.items ≡ [] }
     ensures { FirstDone line.now result out.new.items × (length out.new.items ≤ most_first) }
@@ -172,15 +167,23 @@ impl Run {
         }
     }
 
-    // The input's end: a last line without byte 10; an input without any line is an empty first one.
+    // Whether no line is open. Before line 1 has ended one is: an input without any line is an empty first one.
+    fn none_open(&self) -> bool
+        ensures { result ≡ none_open self.now }
+    {
+        match &self.stage {
+            Stage::Later(_) => self.line.is_empty(),
+            Stage::Ended | Stage::First => false,
+        }
+    }
+
+    // The input's end: a last line without byte 10 is answered.
     fn finish(&mut self)
         requires { Gathered 0 self.old × (goes_on self.old ≡ true) × (self.old.number < most_lines) }
         ensures { Finished self.old self.new }
     {
-        if self.line.is_empty() {
-            if self.number != 1 {
-                return;
-            }
+        if self.none_open() {
+            return;
         }
         self.end_line();
     }

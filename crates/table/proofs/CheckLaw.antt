@@ -1,7 +1,7 @@
 -- Laws of the check that both tables share: when a node is refused, which refusal decides, and what a table that is not refused is like.
 use mathlib.Core.Path.{◌≡◌, refl, sym, ap, ◌∙◌, subst}
-use mathlib.Core.Bool.{Bool, true, false, ◌&&◌, ◌||◌, beq}
-use mathlib.Core.Option.{Option, none, some}
+use mathlib.Core.Bool.{Bool, true, false, ◌&&◌, beq}
+use mathlib.Core.Option.{Option, none, some, some-ne-none}
 use mathlib.Core.List.{List}
 use Prim.Native.Nat.{ℕ, zero, suc, ◌+◌, ◌/◌, ◌%◌, ◌≤◌, ◌<◌}
 use native.Mathlib.Omega.{arith}
@@ -10,6 +10,7 @@ use native.Mathlib.Decide.{dec_lt}
 use lib.Dec.{eqb, ltb, leb}
 use lib.ListN.{length}
 use borrow.Author.Tests.{lt-ltb, le-ltb, eq-eqb, eqb-true, ltb-true, leb-true}
+use Rattle.std.proofs.lemmas.Bool.{false≢true, both_ways, and_parts}
 use Rattle.logic.specs.Letter.{signals}
 use Rattle.trace.specs.declared.refusal.Refusal.{Refusal}
 use Rattle.std.specs.Prelude.{Result, Ok, Err}
@@ -22,35 +23,21 @@ use Rattle.table.specs.Inner.Place.{bound, low_fits, sorts_fit, all_fit}
 
 -- ── Tests and answers ──
 
-pub both_true : (a b : Bool) → a && b ≡ true → (a ≡ true) × (b ≡ true)
-both_true true b e = (refl, e)
-both_true false b e = let z : ◌≡◌ {A = ℕ} 0 1 = cc in absurd (omega arith)
-
-pub not_both : (b : Bool) → b ≡ true → b ≡ false → ⊥
-not_both b e d = let z : ◌≡◌ {A = ℕ} 0 1 = cc in omega arith
-
-pub some-none : {A : Type 0} {x : A} → some x ≡ none → ⊥
-some-none e = let z : ◌≡◌ {A = ℕ} 0 1 = cc in omega arith
-
 pub unless-none : (b : Bool) (x : Refusal) (o : Option Refusal) → unless b x o ≡ none → (b ≡ true) × (o ≡ none)
 unless-none true x o e = (refl, e)
-unless-none false x o e = absurd (some-none e)
+unless-none false x o e = absurd (some-ne-none x e)
 
 pub or-none : (o p : Option Refusal) → or_else o p ≡ none → (o ≡ none) × (p ≡ none)
 or-none none p e = (refl, e)
-or-none (some x) p e = absurd (some-none e)
-
-pub either-false : (a b : Bool) → a || b ≡ false → (a ≡ false) × (b ≡ false)
-either-false true b e = absurd (not_both true refl e)
-either-false false b e = (refl, e)
+or-none (some x) p e = absurd (some-ne-none x e)
 
 -- The answer tells the refusal.
 pub accepted : (o : Option Refusal) (a : Result (Unit {0}) Refusal) → a ≡ checked o → a ≡ Ok tt → o ≡ none
 accepted none a e d = refl
-accepted (some x) a e d = let z : ◌≡◌ {A = ℕ} 0 1 = cc in absurd (omega arith)
+accepted (some x) a e d = cc
 
 pub was_refused : (o : Option Refusal) (a : Result (Unit {0}) Refusal) (x : Refusal) → a ≡ checked o → a ≡ Err x → o ≡ some x
-was_refused none a x e d = let z : ◌≡◌ {A = ℕ} 0 1 = cc in absurd (omega arith)
+was_refused none a x e d = cc
 was_refused (some y) a x e d = cc
 
 -- ── A place ──
@@ -82,7 +69,7 @@ low_fits_lem (operand b) n i e d c = ltb-true n i c
 
 all_fits : (R : Rules) (u : Use) (n i : ℕ) (b : Bool) → all_fit R u n i b ≡ true → Fits R u n i b
 all_fits R u n i b e =
-    let c = both_true (sorts_fit R.sorts u b) (low_fits u n i) e in
+    let c = and_parts (sorts_fit R.sorts u b) (low_fits u n i) e in
     record { low = ltb-true n (bound u i) c.1; sort = c.0 }
 
 fits_all : (R : Rules) (u : Use) (n i : ℕ) (b : Bool) → Fits R u n i b → all_fit R u n i b ≡ true
@@ -99,8 +86,8 @@ pub fit_below : {R : Rules} {u : Use} {n i : ℕ} {b : Bool} → Fits R u n i b 
 fit_below {R} {u} {n} {i} {b} f = go u f.low
   where
     go : (u : Use) → n < bound u i → is_operand u ≡ true → n < i
-    go unused h e = absurd (not_both true refl (sym e))
-    go signal h e = absurd (not_both true refl (sym e))
+    go unused h e = absurd (false≢true e)
+    go signal h e = absurd (false≢true e)
     go (operand c) h e = h
 
 pub fit_unused : {R : Rules} {u : Use} {n i : ℕ} {b : Bool} → Fits R u n i b → u ≡ unused → n ≡ 0
@@ -125,7 +112,7 @@ sorts-none (some s) h lb rb e d = rw (e, d)
 sorts_fit_lem : (S : Option Sorts) (h : Use × Use) (lb rb : Bool) → sort_refusal S h lb rb ≡ none → (sorts_fit S h.0 lb ≡ true) × (sorts_fit S h.1 rb ≡ true)
 sorts_fit_lem none h lb rb e = (refl, refl)
 sorts_fit_lem (some s) h lb rb e =
-    both_true (sort_fits h.0 lb) (sort_fits h.1 rb) (unless-none (sort_fits h.0 lb && sort_fits h.1 rb) _ none e).0
+    and_parts (sort_fits h.0 lb) (sort_fits h.1 rb) (unless-none (sort_fits h.0 lb && sort_fits h.1 rb) _ none e).0
 
 module _ (R : Rules) (h : Use × Use) (i l r : ℕ) (lb rb : Bool) where
   places-none : Fits R h.0 l i lb → Fits R h.1 r i rb → places_refusal R h i l r lb rb ≡ none
@@ -148,9 +135,9 @@ module _ (R : Rules) (h : Use × Use) (i l r : ℕ) (lb rb : Bool) where
       let a = unless-none (unused_fits p l && unused_fits q r) _ _ e in
       let b = unless-none (signal_fits p l && signal_fits q r) _ _ a.1 in
       let c = unless-none (operand_fits p l i && operand_fits q r i) _ _ b.1 in
-      let u = both_true (unused_fits p l) (unused_fits q r) a.0 in
-      let s = both_true (signal_fits p l) (signal_fits q r) b.0 in
-      let o = both_true (operand_fits p l i) (operand_fits q r i) c.0 in
+      let u = and_parts (unused_fits p l) (unused_fits q r) a.0 in
+      let s = and_parts (signal_fits p l) (signal_fits q r) b.0 in
+      let o = and_parts (operand_fits p l i) (operand_fits q r i) c.0 in
       let t = sorts_fit_lem R.sorts h lb rb c.1 in (
         record { low = low_fits_lem p l i u.0 s.0 o.0; sort = t.0 },
         record { low = low_fits_lem q r i u.1 s.1 o.1; sort = t.1 },
@@ -190,17 +177,17 @@ module _ (R : Rules) (t : List ℕ) (i : ℕ) where
   pub fast_none : kind_at t i < length R.kinds → Fast ≡ true → refusal_at R t i ≡ none
   fast_none k f =
       let h = shape_of R (kind_at t i) in
-      let c = both_true (all_fit R h.0 (left_at t i) i (is_boolean R t (left_at t i))) _ f in
+      let c = and_parts (all_fit R h.0 (left_at t i) i (is_boolean R t (left_at t i))) _ f in
       node-none R t i record { kind = lt-ltb _ _ k; left = all_fits _ _ _ _ _ c.0; right = all_fits _ _ _ _ _ c.1 }
 
   pub fast_some : Fast ≡ false → refusal_at R t i ≡ none → ⊥
   fast_some f e =
       let s = node_sound R t i e in
       let g : Fast ≡ true = rw (fits_all _ _ _ _ _ s.left, fits_all _ _ _ _ _ s.right) in
-      not_both Fast g f
+      both_ways Fast f g
 
   pub unknown_some : length R.kinds ≤ kind_at t i → refusal_at R t i ≡ none → ⊥
-  unknown_some k e = not_both (known R (kind_at t i)) (node_sound R t i e).kind (le-ltb _ _ k)
+  unknown_some k e = both_ways (known R (kind_at t i)) (le-ltb _ _ k) (node_sound R t i e).kind
 
 -- ── The lowest refusal ──
 
@@ -249,8 +236,8 @@ module _ (R : Rules) (t : List ℕ) where
   pub sized : length_fits R.most (length t) ≡ true → Sized R t
   sized e =
       let n = length t in
-      let a = both_true (eqb (n % 3) 0 && ltb 0 (n / 3)) (leb (n / 3) R.most) e in
-      let b = both_true (eqb (n % 3) 0) (ltb 0 (n / 3)) a.0 in
+      let a = and_parts (eqb (n % 3) 0 && ltb 0 (n / 3)) (leb (n / 3) R.most) e in
+      let b = and_parts (eqb (n % 3) 0) (ltb 0 (n / 3)) a.0 in
       record { threes = eqb-true (n % 3) 0 b.0; some = ltb-true 0 (n / 3) b.1; low = leb-true (n / 3) R.most a.1 }
 
   pub refused-length : length_fits R.most (length t) ≡ false → table_refusal R t ≡ some R.refusals.length

@@ -6,11 +6,11 @@ use mathlib.Core.List.{List}
 use Prim.Native.Nat.{ℕ}
 use lib.ListN.{length}
 use borrow.Author.Tests.{not-true, not-false, ltb-true, ltb-false}
-use Rattle.table.specs.Node.{node, kind_at, left_at, right_at, node_at}
+use Rattle.std.proofs.lemmas.Bool.{and_parts}
+use Rattle.table.specs.Node.{kind_at}
 use Rattle.table.specs.Rules.{Rules, known}
 use Rattle.table.specs.Check.{length_fits, refusal_at, table_refusal}
-use Rattle.table.specs.Inner.Place.{node_low}
-use Rattle.table.proofs.CheckLaw.{both_true, Fast, fast_none, fast_some, unknown_some, refused-length}
+use Rattle.table.proofs.CheckLaw.{Fast, fast_none, fast_some, unknown_some, refused-length}
 
 module _ (R : Rules) (t : List ℕ) where
   -- The test of the length, which answered b.
@@ -23,12 +23,8 @@ module _ (R : Rules) (t : List ℕ) where
 
   -- All tests of node i.
   module _ (i : ℕ) where
-    -- As the code reads it.
-    pub low_read : {k l r : ℕ} → k ≡ kind_at t i → l ≡ left_at t i → r ≡ right_at t i → node_low R i (node k l r) ≡ node_low R i (node_at t i)
-    low_read ek el er = rw (ek, el, er)
-
     pub node_passed : known R (kind_at t i) && Fast R t i ≡ true → refusal_at R t i ≡ none
-    node_passed e = let d = both_true (known R (kind_at t i)) (Fast R t i) e in fast_none R t i (ltb-true _ _ d.0) d.1
+    node_passed e = let d = and_parts (known R (kind_at t i)) (Fast R t i) e in fast_none R t i (ltb-true _ _ d.0) d.1
 
     pub node_failed : known R (kind_at t i) && Fast R t i ≡ false → refusal_at R t i ≡ none → ⊥
     node_failed = go (known R (kind_at t i)) refl

@@ -7,12 +7,12 @@ use mathlib.Core.Option.{none}
 use native.Mathlib.Omega.{arith}
 use native.Mathlib.Decide.{dec_lt}
 use borrow.Author.Tests.{eq-eqb, lt-ltb, le-leb}
-use lib.ListN.{length, get_or, get_or-append}
+use lib.ListN.{length, get_or, length-append, get_or-append}
 use lib.Seq.{get_or_at}
 use Rattle.table.specs.Node.{Node, node, numbers_of, count, kind_at, left_at, right_at, node_at, ◌▸◌}
 use Rattle.table.specs.Rules.{Rules, shape_of, boolean_kind}
 use Rattle.table.specs.Check.{length_fits, is_boolean, refusal_at, table_refusal}
-use Rattle.table.proofs.NodeLaw.{nodes-numbers, length-numbers, length_more, node_at_lem}
+use Rattle.table.proofs.NodeLaw.{nodes-numbers, length-numbers, node_at_lem}
 use Rattle.table.proofs.CheckLaw.{Fits, fit_below, fits-same, Sound, node-none, none-refused, refused_none}
 
 -- ── Nodes by their numbers ──
@@ -74,7 +74,7 @@ module _ (R : Rules) where
           elim (dec_lt i (length ns)) [
             | yes d ↦ subst (Passes (ns ▸ x) i) (sym (node_old ns x i d)) (same i (node_of ns i) (omega arith) (f.at i h d))
             | no d ↦
-                let z : length ns ≡ i = omega (arith, length_more ns x) in
+                let z : length ns ≡ i = omega (arith, length-append ns (x ∷ [])) in
                 subst (λ (n : ℕ). Passes (ns ▸ x) n (node_of (ns ▸ x) n)) z
                 (subst (Passes (ns ▸ x) (length ns)) (sym (node_new ns x)) (same (length ns) x (omega arith) p))
           ]

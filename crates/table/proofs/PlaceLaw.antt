@@ -20,10 +20,10 @@ use Rattle.table.specs.Kind.{KindIs, place_refusals}
 -- What a test that was passed, or failed, says of the tests before the others.
 pub test_passed : (b : Bool) (x : Refusal) (v : Unit {0}) {r : Result (Unit {0}) Refusal} → r ≡ checked (unless b x none) → r ≡ Ok v → b ≡ true
 test_passed true x v e d = refl
-test_passed false x v e d = let z : ◌≡◌ {A = ℕ} 0 1 = cc in absurd (omega arith)
+test_passed false x v e d = cc
 
 pub test_failed : (b : Bool) (x y : Refusal) (o : Option Refusal) {r : Result (Unit {0}) Refusal} → r ≡ checked (unless b x none) → r ≡ Err y → Err y ≡ checked (unless b x o)
-test_failed true x y o e d = let z : ◌≡◌ {A = ℕ} 0 1 = cc in absurd (omega arith)
+test_failed true x y o e d = cc
 test_failed false x y o e d = sym d ∙ e
 
 -- The places of a node, by the code's refusals and what it answers of the sorts.

@@ -1,5 +1,5 @@
 -- Tables of triples, as both kinds of table are: the nodes that a list of numbers stands for, and the value of each node by those before it.
-use Rattle.std.specs.Prelude.{ℕ, ◌+◌, ◌*◌, ◌-◌, ◌/◌, List, [], ◌∷◌, ◌++◌, length, get_or}
+use Rattle.std.specs.Prelude.{◌≡◌, ℕ, ◌+◌, ◌*◌, ◌-◌, ◌/◌, ◌<◌, List, [], ◌∷◌, ◌++◌, length, get_or}
 
 -- A node: kind, left and right.
 pub data Node : Type 0 where
@@ -32,6 +32,11 @@ right_at t i = get_or t (3 * i + 2) 0
 
 abbrev pub node_at : List ℕ → ℕ → Node
 node_at t i = node (kind_at t i) (left_at t i) (right_at t i)
+
+-- The nodes of a list of numbers as threes.
+pub record NodesOf (t : List ℕ) (xs : List (List ℕ)) : Type 0 where
+  pub nodes : length xs ≡ count t
+  pub node_is : (i : ℕ) → i < count t → get_or xs i [] ≡ kind_at t i ∷ left_at t i ∷ right_at t i ∷ []
 
 -- A list with one more at its end, which has the number `last`.
 infixl 20 ◌▸◌

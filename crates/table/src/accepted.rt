@@ -3,7 +3,7 @@ ghost use Rattle.std.specs.Prelude.{◌≡◌};
 ghost use Rattle.std.proofs.Math.Option.{none};
 
 use crate::kind::Checked;
-use crate::{Node, NodeNo, node_in};
+use crate::{Node, NodeNo, nodes_of};
 use std::alloc::AllocError;
 use std::marker::PhantomData;
 use trace::Refusal;
@@ -15,7 +15,7 @@ pub struct Table<'a, K: Checked> {
     pub ghost accepted: { K.refusal numbers.now ≡ none },
 }
 
-// A derive would ask that the kinds are clones.
+// By hand: a derive over a ghost field that speaks of the parameter is refused.
 impl<'a, K: Checked> Clone for Table<'a, K> {
     fn clone(&self) -> Result<Table<'a, K>, AllocError> {
         Ok(*self)
@@ -25,9 +25,9 @@ impl<'a, K: Checked> Clone for Table<'a, K> {
 impl<'a, K: Checked> Copy for Table<'a, K> {}
 
 impl<'a, K: Checked> Table<'a, K> {
-    ghost use Rattle.std.specs.Prelude.{◌-◌, ◌<◌};
-    ghost use Rattle.table.specs.Node.{count, kind_at, left_at, right_at};
-    ghost use Rattle.table.specs.Takes.{Takes};
+    ghost use Rattle.std.specs.Prelude.{◌-◌};
+    ghost use Rattle.table.specs.Node.{count};
+    ghost use Rattle.table.specs.Takes.{Takes, NodeIs};
 
     pub fn new(t: &'a [u16]) -> Result<Table<'a, K>, Refusal>
         ensures { Takes K.refusal t.entry result }
@@ -50,18 +50,18 @@ impl<'a, K: Checked> Table<'a, K> {
     pub fn root(self) -> NodeNo
         ensures { result.0 ≡ count self.entry.numbers.now - 1 }
     {
-        NodeNo((self.nodes() - 1) as u16)
+        NodeNo::from_index(self.nodes() - 1)
     }
 
-    pub fn node(self, i: NodeNo) -> Node<K>
-        requires { i.0 < count self.numbers.now }
-        ensures { (K.number result.kind ≡ kind_at self.entry.numbers.now i.0) × (result.left ≡ left_at self.entry.numbers.now i.0) × (result.right ≡ right_at self.entry.numbers.now i.0) }
+    // Node i; none past the end.
+    pub fn node(self, i: NodeNo) -> Option<Node<K>>
+        ensures { NodeIs K.number self.entry.numbers.now i.0 result }
     {
-        let n = node_in(self.numbers, i.0 as usize);
-        Node {
+        let n = Node::from(*nodes_of(self.numbers).get(i.index())?);
+        Some(Node {
             kind: K::from_number(n.kind).unwrap(),
             left: n.left,
             right: n.right,
-        }
+        })
     }
 }

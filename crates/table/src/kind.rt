@@ -34,7 +34,7 @@ pub trait Kind: Copy {
     fn places(self) -> (Place, Place)
         ensures { uses_of result ≡ shape_of rules (number self) };
 
-    // The number of a Boolean kind.
+    // The number of a Boolean kind. It takes a number, since what an operand's place names need not be of a kind.
     fn is_boolean(n: u16) -> bool
         ensures { result ≡ boolean_kind rules.sorts n };
 

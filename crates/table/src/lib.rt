@@ -1,13 +1,13 @@
-// Tables of triples: what PSL and LTL tables share.
+// Tables of triples: what PSL and LTL tables share. A table is a list of numbers, three a node, and an operand is its node's number, since C lends and takes them so.
 #![tactic(auto)]
 
 mod accepted;
 mod kind;
 mod place;
 
-ghost use Rattle.std.specs.Prelude.{◌≡◌, ◌<◌, get_or};
+ghost use Rattle.std.specs.Prelude.{◌≡◌, ◌*◌, ◌%◌, List, [], ◌∷◌, get_or};
 ghost use Rattle.std.proofs.Math.Option.{none};
-ghost use Rattle.table.specs.Node.{node, count, kind_at, left_at, right_at};
+ghost use Rattle.table.specs.Node.{node, kind_at, left_at, right_at, NodesOf};
 ghost use Rattle.trace.specs.Refusal.{unless};
 ghost use Rattle.table.specs.Answer.{checked};
 ghost use Rattle.table.specs.Check.{length_fits, sort_refusal, places_refusal, node_refusal, refusal_at};
@@ -22,13 +22,47 @@ use trace::Refusal;
 #[derive(Clone, Copy, Debug, PartialEq, Eq, PartialOrd, Ord)]
 pub struct NodeNo(pub u16);
 
-// A node: its kind, and what its two places hold. The kind is a number as it stands in a list, or what that stands for.
+impl NodeNo {
+    // The node that stands at place i. There are no more than 65,536 numbers of nodes.
+    pub fn from_index(i: usize) -> NodeNo
+        ensures { result.0 ≡ i % 65536 }
+    {
+        NodeNo((i % 65536) as u16)
+    }
+
+    // Its place along the table.
+    pub fn index(self) -> usize
+        ensures { result ≡ self.0 }
+    {
+        usize::from(self.0)
+    }
+
+    // Where its three numbers begin.
+    pub fn start(self) -> usize
+        ensures { result ≡ 3 * self.0 }
+    {
+        3 * self.index()
+    }
+}
+
+// A node: its kind, and what its two places hold. The kind is a number as it stands in a list, or what that stands for. Its number is no part of it, since it stands in no list: functions take both.
 #[derive(Clone, Copy, Debug, PartialEq, Eq)]
 pub struct Node<K> {
     pub kind: K,
     pub left: u16,
     pub right: u16,
 }
+
+impl From<[u16; 3]> for Node<u16> {
+    ghost from_gives = { λ x n. x ≡ n.kind ∷ n.left ∷ n.right ∷ [] };
+
+    fn from([kind, left, right]: [u16; 3]) -> Node<u16> {
+        Node { kind, left, right }
+    }
+}
+
+// The most nodes of a small table, for which a check or a verdict clears less memory than for the largest.
+pub const FEW_NODES: usize = 128;
 
 // A table of n numbers has as many nodes as are allowed.
 pub fn length_fits(most: usize, n: usize) -> bool
@@ -37,16 +71,11 @@ pub fn length_fits(most: usize, n: usize) -> bool
     (n % 3 == 0) & (0 < n / 3) & (n / 3 <= most)
 }
 
-// Node i of a list.
-pub fn node_in(t: &[u16], i: usize) -> Node<u16>
-    requires { i < count t.now }
-    ensures { (result.kind ≡ kind_at t.now i) × (result.left ≡ left_at t.now i) × (result.right ≡ right_at t.now i) }
+// The nodes of a list, three numbers each. One or two numbers left over are of none.
+pub fn nodes_of(t: &[u16]) -> &[[u16; 3]]
+    ensures { NodesOf t.now result.now }
 {
-    Node {
-        kind: t[3 * i],
-        left: t[3 * i + 1],
-        right: t[3 * i + 2],
-    }
+    t.as_chunks::<3>().0
 }
 
 // A number of a list, 0 past its end.
@@ -54,6 +83,18 @@ fn number_at(t: &[u16], at: usize) -> u16
     ensures { result ≡ get_or t.now at 0 }
 {
     t.get(at).copied().unwrap_or(0)
+}
+
+// Node i of a list, 0 past its end: it is asked of any list, which `nodes_of` gives no place for.
+fn node_in(t: &[u16], i: NodeNo) -> Node<u16>
+    ensures { (result.kind ≡ kind_at t.now i.0) × (result.left ≡ left_at t.now i.0) × (result.right ≡ right_at t.now i.0) }
+{
+    let at = i.start();
+    Node {
+        kind: number_at(t, at),
+        left: number_at(t, at + 1),
+        right: number_at(t, at + 2),
+    }
 }
 
 // That refusal unless a test was passed.
@@ -64,24 +105,26 @@ fn passed(test: bool, x: Refusal) -> Result<(), Refusal>
 }
 
 // The sorts of a node's operands, if there are two.
-fn check_sorts<K: Kind>(places: (Place, Place), lb: bool, rb: bool) -> Result<(), Refusal>
-    ensures { result ≡ checked (sort_refusal K.rules.sorts (uses_of places) lb rb) }
+fn check_sorts<K: Kind>(places: (Place, Place), booleans: (bool, bool)) -> Result<(), Refusal>
+    ensures { result ≡ checked (sort_refusal K.rules.sorts (uses_of places) booleans.0 booleans.1) }
 {
     match K::refusals().sort {
         None => Ok(()),
-        Some(e) => passed(places.0.sort_fits(lb) & places.1.sort_fits(rb), e),
+        Some(e) => passed(
+            places.0.sort_fits(booleans.0) & places.1.sort_fits(booleans.1),
+            e,
+        ),
     }
 }
 
-// The places of node i, its operands being Booleans if lb and rb.
+// The places of node i. `booleans` tells which of its operands are Booleans.
 fn check_places<K: Kind>(
     places: (Place, Place),
     i: NodeNo,
     n: Node<u16>,
-    lb: bool,
-    rb: bool,
+    booleans: (bool, bool),
 ) -> Result<(), Refusal>
-    ensures { result ≡ checked (places_refusal K.rules (uses_of places) i.0 n.left n.right lb rb) }
+    ensures { result ≡ checked (places_refusal K.rules (uses_of places) i.0 n.left n.right booleans.0 booleans.1) }
 {
     let (p, q) = places;
     let x = K::refusals();
@@ -91,40 +134,30 @@ fn check_places<K: Kind>(
         p.operand_fits(n.left, i) & q.operand_fits(n.right, i),
         x.operand,
     )?;
-    check_sorts::<K>(places, lb, rb)
+    check_sorts::<K>(places, booleans)
 }
 
-// Node i, its operands being Booleans if lb and rb.
-pub fn check_node<K: Kind>(i: NodeNo, n: Node<u16>, lb: bool, rb: bool) -> Result<(), Refusal>
-    ensures { result ≡ checked (node_refusal K.rules i.0 (node n.kind n.left n.right) lb rb) }
+// Node i. `booleans` tells which of its operands are Booleans.
+pub fn check_node<K: Kind>(i: NodeNo, n: Node<u16>, booleans: (bool, bool)) -> Result<(), Refusal>
+    ensures { result ≡ checked (node_refusal K.rules i.0 (node n.kind n.left n.right) booleans.0 booleans.1) }
 {
     let kind = K::from_number(n.kind)?;
-    check_places::<K>(kind.places(), i, n, lb, rb)
+    check_places::<K>(kind.places(), i, n, booleans)
 }
 
 // All tests of node i but those of sorts, in one.
 pub fn low_node<K: Kind>(i: NodeNo, n: Node<u16>) -> bool
     ensures { result ≡ node_low K.rules i.0 (node n.kind n.left n.right) }
 {
-    match K::from_number(n.kind) {
-        Ok(kind) => places_low(kind.places(), i, n),
-        Err(_) => false,
-    }
+    K::from_number(n.kind).is_ok_and(|kind| places_low(kind.places(), i, n))
 }
 
 // The answer for node i of a table, whatever the table is.
 pub fn refused_at<K: Kind>(t: &[u16], i: NodeNo) -> Result<(), Refusal>
     ensures { result ≡ checked (refusal_at K.rules t.now i.0) }
 {
-    let at = 3 * (i.0 as usize);
-    let l = number_at(t, at + 1);
-    let r = number_at(t, at + 2);
-    let n = Node {
-        kind: number_at(t, at),
-        left: l,
-        right: r,
-    };
-    let lb = K::is_boolean(number_at(t, 3 * (l as usize)));
-    let rb = K::is_boolean(number_at(t, 3 * (r as usize)));
-    check_node::<K>(i, n, lb, rb)
+    let n = node_in(t, i);
+    let left = K::is_boolean(node_in(t, NodeNo(n.left)).kind);
+    let right = K::is_boolean(node_in(t, NodeNo(n.right)).kind);
+    check_node::<K>(i, n, (left, right))
 }

@@ -1,26 +1,36 @@
--- Letters copied to the start of a list: as many as have room.
+-- Parts copied into lists: as much as has room.
 use mathlib.Core.Path.{◌≡◌, refl, sym, ap, ◌∙◌}
-use mathlib.Core.List.{List, [], ◌∷◌, ◌++◌}
-use Prim.Native.Nat.{ℕ, suc, ◌≤◌, ◌<◌, min}
+use mathlib.Core.List.{List, [], ◌∷◌, ◌++◌, append-nil}
+use Prim.Native.Nat.{ℕ, zero, suc, ◌+◌, ◌-◌, ◌≤◌, ◌<◌}
 use native.Mathlib.Omega.{arith}
-use native.Mathlib.Decide.{dec_lt}
-use lib.ListN.{length, take, drop, take-append-drop, drop_of_length-le}
-use lib.Seq.{sets, sets-eq, length-sets, set_out, length-take-le}
-use Rattle.table.proofs.StoreLaw.{sets-sets}
+use lib.ListN.{length, get_or, take, drop, set, length-take, length-drop, drop_of_length-le}
+use lib.Seq.{sets, take_all}
+use borrow.Rule.Slice.PartMut.{put_mid, post_of, Post-is}
+use Rattle.std.proofs.lemmas.List.{take_more}
 
--- What has no room is left out.
-sets_out : (vs l : List ℕ) (i : ℕ) → length l ≤ i → sets l i vs ≡ l
-sets_out [] l i h = refl
-sets_out (v ∷ vs) l i h = ap (λ (x : List ℕ). sets x (suc i) vs) (set_out l i v h) ∙ sets_out vs l (suc i) (omega arith)
+-- A store more.
+sets_more : {A : Type 0} (xs l : List A) (i j : ℕ) (x : A) → i + length xs ≡ j → set (sets l i xs) j x ≡ sets l i (xs ++ (x ∷ []))
+sets_more [] l i j x e = ap (λ (n : ℕ). set l n x) (omega arith)
+sets_more (y ∷ xs) l i j x e = sets_more xs (set l i y) (suc i) j x (omega arith)
 
-pub copied : (part l : List ℕ) (i : ℕ) → i ≡ min (length part) (length l) → take i part ++ drop i l ≡ sets l 0 part
-copied part l i e =
-    let n : length (take i part) ≡ i = length-take-le i part (omega arith) in
-    let front : sets l 0 (take i part) ≡ take i part ++ drop i l = sets-eq (take i part) l 0 (omega arith) ∙ ap (λ (k : ℕ). take i part ++ drop k l) (omega (arith, n)) in
-    sym front ∙ sym (go (dec_lt i (length part)))
-    ∙ sets-sets (take i part) (drop i part) l 0 i (omega (arith, n))
-    ∙ ap (sets l 0) (take-append-drop i part)
-  where
-    go : Dec (i < length part) → sets (sets l 0 (take i part)) i (drop i part) ≡ sets l 0 (take i part)
-    go (yes h) = sets_out (drop i part) _ i (omega (arith, length-sets l 0 (take i part)))
-    go (no h) = let g : length part ≤ i = omega arith in ap (sets _ i) (drop_of_length-le part g)
+pub copied_more : {A : Type 0} (part l m : List A) (i : ℕ) (x : A) → i < length part → x ≡ get_or part i x → m ≡ sets l 0 (take i part) → set m i x ≡ sets l 0 (take (i + 1) part)
+copied_more part l m i x h e c =
+    ap (λ k. set k i x) c ∙ sets_more (take i part) l 0 i x (omega (arith, length-take i part))
+    ∙ ap (sets l 0) (ap (λ k. take i part ++ (k ∷ [])) e ∙ sym (take_more part i x h))
+
+sets-cons : (w l : List ℕ) (x i : ℕ) → sets (x ∷ l) (suc i) w ≡ x ∷ sets l i w
+sets-cons [] l x i = refl
+sets-cons (v ∷ w) l x i = sets-cons w (set l i v) x (suc i)
+
+-- Stores from a place on are stores at the start of the rest.
+sets_rest : (w l : List ℕ) (i : ℕ) → i ≤ length l → take i l ++ sets (drop i l) 0 w ≡ sets l i w
+sets_rest w l zero h = refl
+sets_rest w [] (suc i) h = absurd (omega arith)
+sets_rest w (x ∷ l) (suc i) h = ap (λ (y : List ℕ). x ∷ y) (sets_rest w l i (omega arith)) ∙ sym (sets-cons w l x i)
+
+-- The rest of a list from a place on, lent and given back with a copy at its start.
+pub put_rest : (w l m : List ℕ) (i : ℕ) → i ≤ length l → m ≡ sets (take (length l - i) (drop i l)) 0 w → put_mid i (length l - i) l m ≡ sets l i w
+put_rest w l m i h e =
+    let whole : take (length l - i) (drop i l) ≡ drop i l = take_all (length l - i) (drop i l) (omega (arith, length-drop i l)) in
+    let none : post_of i (length l - i) l ≡ [] = Post-is i (length l) l h ∙ drop_of_length-le l (omega arith) in
+    ap (λ (y : List ℕ). take i l ++ (m ++ y)) none ∙ ap (λ (y : List ℕ). take i l ++ y) (append-nil m ∙ e ∙ ap (λ (y : List ℕ). sets y 0 w) whole) ∙ sets_rest w l i h

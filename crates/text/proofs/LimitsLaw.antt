@@ -6,12 +6,12 @@ use Prim.Native.Nat.{ℕ}
 use native.Mathlib.Omega.{arith}
 use Rattle.trace.specs.declared.refusal.Refusal.{Refusal}
 use Rattle.trace.specs.Refusal.{unless, or_else}
-use Rattle.table.proofs.CheckLaw.{some-none}
+use mathlib.Core.Option.{some-ne-none}
 
 -- Two tests that are passed.
 pub passed : (a b : Bool) (x y : Refusal) → unless a x (unless b y none) ≡ none → (a ≡ true) × (b ≡ true)
-passed false b x y e = absurd (some-none e)
-passed true false x y e = absurd (some-none e)
+passed false b x y e = absurd (some-ne-none _ e)
+passed true false x y e = absurd (some-ne-none _ e)
 passed true true x y e = (refl, refl)
 
 -- A third test that is passed where the first two are.

@@ -5,9 +5,9 @@ use Prim.Native.Nat.{ℕ, zero, suc, ◌+◌, ◌<◌, ◌≤◌}
 use native.Mathlib.Omega.{arith}
 use native.Mathlib.Numerals.{add-one}
 use lib.ListN.{length, take, drop, take-append-drop, length-append, length-take, length-drop}
-use lib.Seq.{take-take, drop-append-le, length-take-le}
+use lib.Seq.{drop-cons, take-take, drop-append-le, length-take-le}
 use Rattle.std.specs.Prelude.{Some, slice_get}
-use Rattle.std.proofs.lemmas.Option.{slice_get_within}
+use Rattle.std.proofs.lemmas.Option.{slice_get_within, get_or_from_slice_get}
 use Rattle.text.specs.Inner.Places.{Stands, Agree, Language, Begins, Halts, Stops, StopsLine, Only}
 
 -- ── Bytes ──
@@ -34,13 +34,8 @@ byte-drop [] (suc i) b t e = absurd (omega (arith, ap length e))
 byte-drop (x ∷ s) zero b t e = ap (λ (c : ℕ). Some c) (head-eq_of_cons-eq e)
 byte-drop (x ∷ s) (suc i) b t e = byte-drop s i b t e
 
-drop_suc : (s : List ℕ) (i b : ℕ) → slice_get s i ≡ Some b → drop i s ≡ b ∷ drop (suc i) s
-drop_suc [] i b e = cc
-drop_suc (x ∷ s) zero b e = cc
-drop_suc (x ∷ s) (suc i) b e = drop_suc s i b e
-
 pub drop-byte : (s : List ℕ) (i b : ℕ) → slice_get s i ≡ Some b → drop i s ≡ b ∷ drop (i + 1) s
-drop-byte s i b e = rw add-one (drop_suc s i b e)
+drop-byte s i b e = rw add-one (drop-cons s i b (slice_get_within s i b e)) ∙ ap (λ (c : ℕ). c ∷ drop (i + 1) s) (get_or_from_slice_get s i b b e)
 
 -- ── What stands ──
 

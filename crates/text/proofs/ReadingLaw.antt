@@ -8,7 +8,7 @@ use native.Mathlib.Omega.{arith}
 use lib.ListN.{length, take, drop, length-append, length-drop, length-take}
 use lib.Seq.{sets, sets-eq, take_at, take-take, take_all}
 use Rattle.trace.specs.declared.refusal.Refusal.{Refusal}
-use Rattle.table.proofs.CheckLaw.{some-none}
+use mathlib.Core.Option.{some-ne-none}
 use Rattle.text.specs.Limits.{most_bytes, front}
 use Rattle.text.specs.Reading.{Breaks, Reading, long, breaks, spells, line_refusal, Takes, Refuses}
 use Rattle.text.specs.Inner.Places.{Language, StopsLine}
@@ -60,7 +60,7 @@ module _ {X : Type 0} (spelled : X → List ℕ) where
       taken_alone {x} {y} a b = one x y (sym a.is ∙ b.is)
 
       pub not_both : {x : X} {e : Refusal} → Takes spelled limits s x → Refuses spelled limits s e → ⊥
-      not_both {x} {e} a b = some-none (sym b.reason ∙ reading_alone b.reading (spells a.short x a.is) ∙ a.within)
+      not_both {x} {e} a b = some-ne-none _ (sym b.reason ∙ reading_alone b.reading (spells a.short x a.is) ∙ a.within)
 
       pub refused_alone : {d e : Refusal} → Refuses spelled limits s d → Refuses spelled limits s e → d ≡ e
       refused_alone a b = let q = sym a.reason ∙ reading_alone a.reading b.reading ∙ b.reason in cc

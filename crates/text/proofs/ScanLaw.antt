@@ -4,8 +4,8 @@ use mathlib.Core.List.{List, [], ◌∷◌, ◌++◌, append_assoc, append_cance
 use Prim.Native.Nat.{ℕ, suc, ◌+◌, ◌*◌, ◌-◌, ◌<◌, ◌≤◌}
 use native.Mathlib.Omega.{arith}
 use native.Mathlib.Numerals.{add-one}
-use lib.ListN.{length, get_or, take, drop, take-append-drop, length-take, length-drop}
-use lib.Seq.{take-suc, take_all, split_at, get_or-take, get_or-drop}
+use lib.ListN.{length, get_or, take, drop, take-append-drop}
+use lib.Seq.{take-suc, split_at}
 use Rattle.text.specs.Spelling.{digits}
 use mathlib.Core.Bool.{true, false, not}
 use borrow.Author.Tests.{eqb-true, eqb-false}
@@ -14,10 +14,10 @@ use Rattle.std.specs.Prelude.{Option, Some, None, Ok, Err, slice_get}
 use Rattle.std.specs.Option.{ok_or, option_eq}
 use Rattle.std.proofs.lemmas.Bool.{not-true, not-false}
 use Rattle.text.specs.declared.scan.Fault.{Fault}
-use Rattle.std.proofs.lemmas.Option.{slice_get_within, slice_get-get_or}
+use Rattle.std.proofs.lemmas.Option.{slice_get_within}
 use Rattle.text.specs.Inner.Places.{Stands, Agree, Halts, Stops}
 use Rattle.text.specs.Inner.Number.{IsDigit, NoDigit, Numeral, Numbered}
-use Rattle.text.specs.Inner.Scan.{DigitRead, NumberRead, WordStands}
+use Rattle.text.specs.Inner.Scan.{DigitRead, NumberRead}
 use Rattle.text.proofs.PlaceLaw.{agree-byte, agree_less, byte-drop, drop-byte, stands_one, stands_join, stands_same, stops_here}
 use Rattle.text.proofs.NumberLaw.{digits_small, digits_more, digits-first}
 
@@ -78,51 +78,45 @@ module _ (s : List ℕ) (at : ℕ) where
     pub zero : first ≡ 0 → i ≡ at + 1
     pub pos : (first ≡ 0 → ⊥) → 0 < n
 
-  pub so_far_one : (d : ℕ) → d < 10 → Stands ((48 + d) ∷ []) s at (at + 1) → SoFar d (10 * 0 + d) (at + 1)
-  so_far_one d h a =
+  pub so_far_one : {next : ℕ} (d : ℕ) → DigitRead s at next (Some d) → SoFar d (10 * 0 + d) next
+  so_far_one {next} d (h, e, a) =
       let z : 10 * 0 + d ≡ d = omega arith in
-      record { stands = rw (z, digits_small d h) a; more = omega arith; zero = λ _. refl; pos = λ n. omega arith }
+      record { stands = rw (z, digits_small d h) a; more = omega (arith, e); zero = λ _. e; pos = λ n. omega arith }
 
-  pub so_far_more : {first n i : ℕ} (d : ℕ) → (first ≡ 0 → ⊥) → d < 10 → SoFar first n i → Stands ((48 + d) ∷ []) s i (i + 1)
-      → SoFar first (10 * n + d) (i + 1)
-  so_far_more {first} {n} {i} d z h a b =
+  pub so_far_more : {first n i next : ℕ} (d : ℕ) → (first ≡ 0 → ⊥) → SoFar first n i → DigitRead s i next (Some d) → SoFar first (10 * n + d) next
+  so_far_more {first} {n} d z a (h, e, b) =
       let p = a.pos z in
-      record { stands = rw (digits_more n d p h) (stands_join a.stands b); more = omega (arith, a.more); zero = λ e. absurd (z e); pos = λ _. omega arith }
+      record { stands = rw (digits_more n d p h) (stands_join a.stands b); more = omega (arith, a.more, e); zero = λ e. absurd (z e); pos = λ _. omega arith }
 
   -- A digit after 0.
-  pub after_zero : {first n i : ℕ} (d : ℕ) → first ≡ 0 → d < 10 → Stands ((48 + first) ∷ []) s at (at + 1) → SoFar first n i
-      → Stands ((48 + d) ∷ []) s i (i + 1) → Halts Numeral Numbered s at i
-  after_zero {first} {n} {i} d e h a f o =
-      let j = f.zero e in
-      let z = subst (λ (c : ℕ). Stands ((48 + c) ∷ []) s at (at + 1)) e a in
-      subst (Halts Numeral Numbered s at) (sym j) (number_zeros z d h (subst (λ (k : ℕ). Stands ((48 + d) ∷ []) s k (k + 1)) j o))
+  pub after_zero : {first n i j next : ℕ} (d : ℕ) → first ≡ 0 → DigitRead s at j (Some first) → SoFar first n i → DigitRead s i next (Some d) → Halts Numeral Numbered s at (at + 1)
+  after_zero {first} {n} {i} {j} {next} d e (_, p, a) f (h, q, o) =
+      let k = f.zero e in
+      let z = subst (λ (c : ℕ). Stands ((48 + c) ∷ []) s at (at + 1)) e (subst (λ (x : ℕ). Stands ((48 + first) ∷ []) s at x) p a) in
+      number_zeros z d h (subst (λ (x : ℕ). Stands ((48 + d) ∷ []) s x (x + 1)) k (subst (λ (x : ℕ). Stands ((48 + d) ∷ []) s i x) q o))
 
 -- ── Words ──
 
 -- The word's first i bytes stand, so far as the line has them: so no place overflows, wherever the reading began.
-pub record Begun (w s : List ℕ) (at i next : ℕ) : Type 0 where
-  pub next_is : next ≡ at + i
+pub record Begun (w s : List ℕ) (at i : ℕ) : Type 0 where
   pub within : i ≤ length w
   pub room : i ≤ length s - at
-  pub stands : at ≤ length s → Stands (take i w) s at next
+  pub stands : at ≤ length s → Stands (take i w) s at (at + i)
 
-pub begun_none : (w s : List ℕ) (at : ℕ) → Begun w s at 0 at
-begun_none w s at = record { next_is = omega arith; within = omega arith; room = omega arith; stands = λ h. record { is = refl; after = omega arith; within = h } }
-
-module _ {w s : List ℕ} {at i next : ℕ} (a : Begun w s at i next) where
-  pub begun_more : (b : ℕ) → i < length w → b ≡ get_or w i 0 → slice_get s next ≡ Some b → Begun w s at (i + 1) (next + 1)
+module _ {w s : List ℕ} {at i : ℕ} (a : Begun w s at i) where
+  pub begun_more : (b : ℕ) → i < length w → b ≡ get_or w i 0 → slice_get s (at + i) ≡ Some b → Begun w s at (i + 1)
   begun_more b h e g =
-      let l = slice_get_within s next b g in
+      let l = slice_get_within s (at + i) b g in
       let f : take i w ++ (b ∷ []) ≡ take (i + 1) w =
       ap (λ (c : ℕ). take i w ++ (c ∷ [])) e ∙ sym (ap (λ (j : ℕ). take j w) (add-one i) ∙ take-suc w i 0 h) in
+      let n : at + i + 1 ≡ at + (i + 1) = omega arith in
       record {
-        next_is = omega (arith, a.next_is);
         within = omega arith;
-        room = omega (arith, a.next_is, a.room);
-        stands = λ k. subst (λ (x : List ℕ). Stands x s at (next + 1)) f (stands_join (a.stands k) (stands_one b g));
+        room = omega (arith, a.room);
+        stands = λ k. subst (λ (j : ℕ). Stands (take (i + 1) w) s at j) n (subst (λ (x : List ℕ). Stands x s at (at + i + 1)) f (stands_join (a.stands k) (stands_one b g)));
       }
 
-  pub begun-part : (b : ℕ) → i < length w → b ≡ get_or w i 0 → (slice_get s next ≡ Some b → ⊥) → at ≤ length s → Stops (λ v. v ≡ w) s at next
+  pub begun-part : (b : ℕ) → i < length w → b ≡ get_or w i 0 → (slice_get s (at + i) ≡ Some b → ⊥) → at ≤ length s → Stops (λ v. v ≡ w) s at (at + i)
   begun-part b h e z k =
       let o = a.stands k in
       record {
@@ -130,20 +124,12 @@ module _ {w s : List ℕ} {at i next : ℕ} (a : Begun w s at i next) where
         within = o.within;
         begun = (take i w, drop i w, o.is, take-append-drop i w);
         none = λ s' g (v, t, m, d).
-            let x : take i w ++ drop next s' ≡ take i w ++ (get_or w i 0 ∷ (drop (suc i) w ++ t)) =
+            let x : take i w ++ drop (at + i) s' ≡ take i w ++ (get_or w i 0 ∷ (drop (suc i) w ++ t)) =
             sym (stands_same s' o (agree_less (omega arith) g)) ∙ d
             ∙ ap (λ (y : List ℕ). y ++ t) (m ∙ split_at w i 0 h) ∙ append_assoc (take i w) (get_or w i 0 ∷ drop (suc i) w) t in
-            z (agree-byte next (omega arith) g
-            ∙ byte-drop s' next (get_or w i 0) (drop (suc i) w ++ t) (append_cancel_left (take i w) _ _ x)
+            z (agree-byte (at + i) (omega arith) g
+            ∙ byte-drop s' (at + i) (get_or w i 0) (drop (suc i) w ++ t) (append_cancel_left (take i w) _ _ x)
             ∙ ap (λ (c : ℕ). Some c) (sym e));
-      }
-
-  pub begun-whole : length w ≤ i → WordStands w s at next
-  begun-whole h =
-      record {
-        ends = omega (arith, a.next_is, a.within);
-        stands = λ k. subst (λ (x : List ℕ). Stands x s at next) (take_all i w h) (a.stands k);
-        past = λ k. omega (arith, a.next_is, a.room);
       }
 
 -- ── Bytes ──
@@ -152,8 +138,8 @@ pub byte_stops : (s : List ℕ) (at b : ℕ) → (slice_get s at ≡ Some b → 
 byte_stops s at b z h = stops_here b h z (λ w e. ([], e)) (b ∷ []) refl
 
 -- A digit is read, or the fault is at the place.
-pub digit_read : {s : List ℕ} {at d : ℕ} (r : Option ℕ) → DigitRead s at r → ok_or {E = Fault} r (record { 0 = at }) ≡ Ok d → (d < 10) × Stands ((48 + d) ∷ []) s at (at + 1)
-digit_read {s} {at} {d} (Some e) h g = let q : e ≡ d = cc in subst (λ (k : ℕ). (k < 10) × Stands ((48 + k) ∷ []) s at (at + 1)) q h
+pub digit_read : {s : List ℕ} {at next d : ℕ} (r : Option ℕ) → DigitRead s at next r → ok_or {E = Fault} r (record { 0 = at }) ≡ Ok d → DigitRead s at next (Some d)
+digit_read {s} {at} {next} {d} (Some e) h g = let q : e ≡ d = cc in subst (λ (k : ℕ). DigitRead s at next (Some k)) q h
 digit_read None h g = cc
 
 -- What a comparison with a byte tells.
@@ -166,20 +152,9 @@ not_byte (Some a) b h e = eqb-false a b (not-true (eqb a b) (sym h)) cc
 not_byte None b h e = cc
 
 -- No digit, and the fault is at the place.
-pub digit_fault : {s : List ℕ} {at : ℕ} {e : Fault} (limit : ℕ) (r : Option ℕ) → DigitRead s at r → ok_or {E = Fault} r (record { 0 = at }) ≡ Err e
+pub digit_fault : {s : List ℕ} {at : ℕ} {e : Fault} (limit next : ℕ) (r : Option ℕ) → DigitRead s at next r → ok_or {E = Fault} r (record { 0 = at }) ≡ Err e
     → NumberRead s at limit at (Err e)
-digit_fault {s} {at} {e} limit None h g =
+digit_fault {s} {at} {e} limit next None h g =
     let q : e.0 ≡ at = cc in
-    (refl, λ k. subst (Halts Numeral Numbered s at) (sym q) (number-none s at k h), λ _. q)
-digit_fault limit (Some d) h g = cc
-
--- A digit in what follows a place.
-pub rest_digit : (s : List ℕ) (n i next : ℕ) → next ≡ n + i → i < length (take (length s - n) (drop n s))
-    → IsDigit (get_or (take (length s - n) (drop n s)) i 0)
-    → let b = get_or (take (length s - n) (drop n s)) i 0 in (b - 48 < 10) × Stands ((48 + (b - 48)) ∷ []) s next (next + 1)
-rest_digit s n i next e h d =
-    let within : i < length s - n = omega (arith, length-take (length s - n) (drop n s), length-drop n s) in
-    let same : get_or (take (length s - n) (drop n s)) i 0 ≡ get_or s next 0 =
-    get_or-take (length s - n) (drop n s) i 0 within ∙ get_or-drop n s i 0 ∙ ap (λ (j : ℕ). get_or s j 0) (sym e) in
-    let again : get_or s next 0 ≡ 48 + (get_or (take (length s - n) (drop n s)) i 0 - 48) = omega (arith, d, same) in
-    (omega (arith, d), stands_one _ (slice_get-get_or s next 0 (omega arith) ∙ ap (λ (b : ℕ). Some b) again))
+    (refl, λ k. subst (Halts Numeral Numbered s at) (sym q) (number-none s at k h.0), λ _. q)
+digit_fault limit next (Some d) h g = cc

@@ -1,7 +1,7 @@
--- Bytes put behind those of a vector with room for n: what has no room is left out.
-use mathlib.Core.Path.{◌≡◌, refl, ap, sym, subst, ◌∙◌}
-use mathlib.Core.List.{List, [], ◌∷◌, ◌++◌, append_assoc}
-use Prim.Native.Nat.{ℕ, zero, suc, ◌+◌, ◌/◌, ◌%◌, ◌^◌, ◌<◌, ◌≤◌}
+-- Texts put one behind the other.
+use mathlib.Core.Path.{◌≡◌, ap, sym, subst, ◌∙◌}
+use mathlib.Core.List.{List, [], ◌∷◌, ◌++◌}
+use Prim.Native.Nat.{ℕ, ◌+◌, ◌/◌, ◌%◌, ◌^◌, ◌<◌, ◌≤◌}
 use native.Mathlib.Omega.{arith}
 use lib.ListN.{length, take, length-take}
 use lib.Seq.{take_all}
@@ -10,22 +10,7 @@ use Rattle.std.specs.Fmt.{decimal}
 use Rattle.text.specs.Spelling.{digits}
 use Rattle.text.proofs.NumberLaw.{digits_small, digits_more}
 
--- What was left out leaves no room for more.
-take_cut : (n : ℕ) (l w : List ℕ) → take n (take n l ++ w) ≡ take n (l ++ w)
-take_cut zero l w = refl
-take_cut (suc n) [] w = refl
-take_cut (suc n) (x ∷ l) w = ap (λ (y : List ℕ). x ∷ y) (take_cut n l w)
-
--- Bytes put after bytes.
-pub put_join : (n : ℕ) (l v w : List ℕ) → take n (take n (l ++ v) ++ w) ≡ take n (l ++ (v ++ w))
-put_join n l v w = take_cut n (l ++ v) w ∙ ap (take n) (append_assoc l v w)
-
-pub put_more : (n : ℕ) (l v w : List ℕ) {m k : List ℕ} → m ≡ take n (l ++ v) → k ≡ take n (m ++ w) → k ≡ take n (l ++ (v ++ w))
-put_more n l v w a b = b ∙ ap (λ (x : List ℕ). take n (x ++ w)) a ∙ put_join n l v w
-
-pub ruleset putting = (put_join, append_assoc)
-
--- Where there is still room, nothing was left out.
+-- Where a vector still has room, nothing was left out.
 pub put_whole : (n : ℕ) (l w m : List ℕ) → m ≡ take n (l ++ w) → length m < n → m ≡ l ++ w
 put_whole n l w m e h = e ∙ take_all n (l ++ w) (shorter n (l ++ w) (subst (λ (x : List ℕ). length x < n) e h))
   where

@@ -1,4 +1,5 @@
 -- What the functions promise: read these after `Reading`.
+pub mod Put
 pub mod Places
 pub mod Words
 pub mod Number

@@ -1,31 +1,49 @@
-// Bytes put behind those of a vector, and values put into a lent list. What has no room is left out: so nothing is asked of either.
-ghost use Rattle.std.specs.Prelude.{◌≡◌, [], ◌∷◌, ◌++◌, take, set};
+// Texts put one behind the other, and values put into a lent list. What has no room is left out: so nothing is asked of either.
+ghost use Rattle.std.specs.Prelude.{◌≡◌, List, ℕ, [], ◌∷◌, ◌++◌, take, set};
 ghost use Rattle.text.specs.Spelling.{digits};
+ghost use Rattle.text.specs.Inner.Put.{vector_join};
 
 use arrayvec::ArrayVec;
 
-// A byte.
-pub fn put_byte<const N: usize>(out: &mut ArrayVec<u8, N>, b: u8)
-    ensures { out.new.items ≡ take N (out.old.items ++ b ∷ []) }
-{
-    put_text(out, &[b])
+// What texts are put into. Texts are put by functions and not by `Display`, of whose text no contract can speak.
+pub trait Sink {
+    // The text was put into the first, which became the second.
+    ghost Put: { Self → List ℕ → Self → Type 0 };
+
+    // As many bytes of a text as have room.
+    fn put_text(&mut self, w: &[u8])
+        ensures { Put self.old w.now self.new };
+
+    // A text behind a text.
+    ghost join: { (a b c : Self) (v w : List ℕ) → Put a v b → Put b w c → Put a (v ++ w) c };
 }
 
-// As many bytes of a text as have room.
-pub fn put_text<const N: usize>(out: &mut ArrayVec<u8, N>, w: &[u8])
-    ensures { out.new.items ≡ take N (out.old.items ++ w.now) }
+// A vector takes them behind its bytes.
+impl<const N: usize> Sink for ArrayVec<u8, N> {
+    ghost Put = { λ a w b. b.items ≡ take N (a.items ++ w) };
+
+    ghost join = { λ a b c. vector_join N a.items b.items c.items };
+
+    fn put_text(&mut self, w: &[u8]) {
+        let end = self.remaining_capacity().min(w.len());
+        let _all = self.try_extend_from_slice(&w[..end]);
+    }
+}
+
+// A byte.
+pub fn put_byte<S: Sink>(out: &mut S, b: u8)
+    ensures { S.Put out.old (b ∷ []) out.new }
 {
-    let end = out.remaining_capacity().min(w.len());
-    let _all = out.try_extend_from_slice(&w[..end]);
+    out.put_text(&[b])
 }
 
 // A number in decimal.
 #[tactic(auto, using(crate::proofs::WriterLaw::digits_decimal))]
-pub fn put_number<const N: usize>(out: &mut ArrayVec<u8, N>, n: u64)
-    ensures { out.new.items ≡ take N (out.old.items ++ digits n) }
+pub fn put_number<S: Sink>(out: &mut S, n: u64)
+    ensures { S.Put out.old (digits n) out.new }
 {
     let mut digits = itoa::Buffer::new();
-    put_text(out, digits.format(n).as_bytes())
+    out.put_text(digits.format(n).as_bytes())
 }
 
 // A value at a place of a lent list, nothing past the list's end. By `get_mut` the proof did not close: its goals name values of Rattle's own.

@@ -30,8 +30,8 @@ impl Fault {
     }
 }
 
-// A line, and the place from which it is read. Nothing is asked of the place, by an invariant either: past the line's end nothing stands. A value behind `&mut` may be
-// changed as a whole, so each reader says that the line stays.
+// A line, and the place from which it is read. There is no invariant on the place, which would ask more of who makes one: past the line's end nothing stands. So readers of forms and of letters ask in
+// their own contracts that it is within. A value behind `&mut` may be changed as a whole, so each reader says that the line stays.
 #[derive(Clone, Copy, Debug)]
 pub struct Cursor<'a> {
     pub line: &'a [u8],
@@ -63,14 +63,13 @@ impl<'a> Cursor<'a> {
         ensures line { self.new.line.now ≡ self.old.line.now }
         ensures read { WordRead word.now self.old.line.now self.old.at self.new.at result }
     {
-        let mut next = self.at;
-        for b in word {
-            if byte(self.line, next) != Some(*b) {
-                return Err(Fault(next));
+        for (i, b) in word.iter().enumerate() {
+            let at = self.at + i;
+            if byte(self.line, at) != Some(*b) {
+                return Err(Fault(at));
             }
-            next += 1;
         }
-        self.at = next;
+        self.at += word.len();
         Ok(())
     }
 

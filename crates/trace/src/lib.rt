@@ -28,27 +28,20 @@ pub fn letter_at<'a>(lead: &'a [Letter], cycle: &'a [Letter], m: Moment) -> Resu
     if at < lead.len() {
         return Ok(lead[at]);
     }
-    if cycle.len() == 0 {
-        return Err(Refusal::NoMoment);
+    match (at - lead.len()).checked_rem(cycle.len()) {
+        Some(i) => Ok(cycle[i]),
+        None => Err(Refusal::NoMoment),
     }
-    let i = (at - lead.len()) % cycle.len();
-    Ok(cycle[i])
 }
 
 // The rest of the list that a moment falls in, from that letter on.
 pub fn rest<'a>(lead: &'a [Letter], cycle: &'a [Letter], m: Moment) -> &'a [Letter]
     ensures { RestIs lead.entry cycle.entry m.0 result }
 {
-    let at = m.0;
-    if at < lead.len() {
-        return &lead[at..];
+    match m.0.checked_sub(lead.len()) {
+        None => &lead[m.0..],
+        Some(past) => &cycle[past.min(cycle.len())..],
     }
-    let past = at - lead.len();
-    let end = cycle.len();
-    if past < end {
-        return &cycle[past..];
-    }
-    &cycle[end..]
 }
 
 // A trace looked at through its two lists.

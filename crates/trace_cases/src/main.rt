@@ -2,67 +2,75 @@
 #![tactic(auto)]
 
 use logic::Letter;
-use report::{say, show_letters};
-use std::io;
+use report::Row;
+use std::{fmt, io};
 use trace::{Moment, Refusal};
 
 const LARGEST: usize = usize::MAX;
 
-fn tell(rt: &impl Print, name: &str, a: Result<Letter, Refusal>) -> io::Result<()> {
-    match a {
-        Ok(x) => say(rt, name, u64::from(x)),
-        Err(x) => println!(rt; "{name} refused {}", u8::from(x)),
+// A letter, or the number of the refusal.
+#[derive(Clone, Copy)]
+struct Told(Result<Letter, Refusal>);
+
+impl fmt::Display for Told {
+    fn fmt<W: fmt::Write>(&self, f: &mut fmt::Formatter<W>) -> fmt::Result {
+        match self.0 {
+            Ok(x) => write!(f, "{x}"),
+            Err(x) => write!(f, "refused {}", u8::from(x)),
+        }
     }
 }
 
-// From the two lists, and by way of the view.
+// Moments of a trace with their names: from the two lists, and by way of the view.
 fn look(
     rt: &impl Print,
-    name: &str,
     lead: &[Letter],
     cycle: &[Letter],
-    at: usize,
+    moments: &[(&str, usize)],
 ) -> io::Result<()> {
-    let m = Moment(at);
-    tell(rt, name, trace::letter_at(lead, cycle, m))?;
-    show_letters(rt, "  rest", trace::rest(lead, cycle, m))?;
-    tell(rt, "  by the view", trace::letter_of(lead, cycle, m))?;
-    show_letters(rt, "  rest by the view", trace::rest_of(lead, cycle, m))
+    for (name, at) in moments {
+        let m = Moment(*at);
+        println!(rt; "{name} {}", Told(trace::letter_at(lead, cycle, m)))?;
+        println!(rt; "  rest{}", Row(trace::rest(lead, cycle, m)))?;
+        println!(rt; "  by the view {}", Told(trace::letter_of(lead, cycle, m)))?;
+        println!(rt; "  rest by the view{}", Row(trace::rest_of(lead, cycle, m)))?;
+    }
+    Ok(())
 }
 
-fn looping(rt: &impl Print) -> io::Result<()> {
-    let lead = [11u32, 12, 13];
-    let cycle = [21u32, 22];
-    look(rt, "first letter", &lead, &cycle, 0)?;
-    look(rt, "inside the lead-in", &lead, &cycle, 1)?;
-    look(rt, "last of the lead-in", &lead, &cycle, 2)?;
-    look(rt, "first of the loop", &lead, &cycle, 3)?;
-    look(rt, "last of the loop", &lead, &cycle, 4)?;
-    look(rt, "once round", &lead, &cycle, 5)?;
-    look(rt, "once round, last", &lead, &cycle, 6)?;
-    look(rt, "the largest moment", &lead, &cycle, LARGEST)
-}
+const LOOPING: [(&str, usize); 8] = [
+    ("first letter", 0),
+    ("inside the lead-in", 1),
+    ("last of the lead-in", 2),
+    ("first of the loop", 3),
+    ("last of the loop", 4),
+    ("once round", 5),
+    ("once round, last", 6),
+    ("the largest moment", LARGEST),
+];
 
-fn loop_alone(rt: &impl Print) -> io::Result<()> {
-    let cycle = [5u32, 4294967295, 7];
-    look(rt, "no lead-in, first", &[], &cycle, 0)?;
-    look(rt, "no lead-in, largest letter", &[], &cycle, 1)?;
-    look(rt, "no lead-in, once round", &[], &cycle, 3)?;
-    look(rt, "no lead-in, the largest moment", &[], &cycle, LARGEST)
-}
+const LOOP_ALONE: [(&str, usize); 4] = [
+    ("no lead-in, first", 0),
+    ("no lead-in, largest letter", 1),
+    ("no lead-in, once round", 3),
+    ("no lead-in, the largest moment", LARGEST),
+];
 
-fn finite(rt: &impl Print) -> io::Result<()> {
-    let lead = [11u32, 12, 13];
-    look(rt, "finite, inside", &lead, &[], 1)?;
-    look(rt, "finite, last letter", &lead, &[], 2)?;
-    look(rt, "finite, at its length", &lead, &[], 3)?;
-    look(rt, "finite, the largest moment", &lead, &[], LARGEST)?;
-    look(rt, "empty trace", &[], &[], 0)?;
-    look(rt, "empty trace, the largest moment", &[], &[], LARGEST)
-}
+const FINITE: [(&str, usize); 4] = [
+    ("finite, inside", 1),
+    ("finite, last letter", 2),
+    ("finite, at its length", 3),
+    ("finite, the largest moment", LARGEST),
+];
+
+const EMPTY: [(&str, usize); 2] = [
+    ("empty trace", 0),
+    ("empty trace, the largest moment", LARGEST),
+];
 
 fn main(rt: HostRuntime) -> io::Result<()> {
-    looping(&rt)?;
-    loop_alone(&rt)?;
-    finite(&rt)
+    look(&rt, &[11, 12, 13], &[21, 22], &LOOPING)?;
+    look(&rt, &[], &[5, 4294967295, 7], &LOOP_ALONE)?;
+    look(&rt, &[11, 12, 13], &[], &FINITE)?;
+    look(&rt, &[], &[], &EMPTY)
 }

@@ -6,7 +6,7 @@ use mathlib.Core.List.{List, [], ◌∷◌, ◌++◌, append-nil, append_cancel_
 use Prim.Native.Nat.{ℕ, suc, ◌+◌, max, ◌<◌, ◌≤◌}
 use native.Mathlib.Omega.{arith}
 use borrow.Author.Tests.{lt-leb, le-leb, ltb-true, ltb-false}
-use lib.ListN.{length, drop}
+use lib.ListN.{length, take, drop}
 use lib.Seq.{sets, drop-length}
 use lib.Dec.{leb, ltb}
 use Rattle.trace.specs.declared.refusal.Refusal.{Refusal}
@@ -15,16 +15,16 @@ use Rattle.std.specs.Prelude.{Option, Some, None, Result, Ok, Err}
 use Rattle.std.specs.Option.{ok_or}
 use Rattle.text.specs.Text.{text}
 use Rattle.trace_lines.specs.Spelling.{TraceLists, trace_line, line_of_trace}
-use Rattle.text.specs.Limits.{most_bytes}
+use Rattle.text.specs.Limits.{most_bytes, front}
 use Rattle.text.specs.Reading.{long, breaks, spells}
 use Rattle.trace_lines.specs.TraceAnswer.{large_letter, trace_limits, trace_refusal, TraceAnswer}
 use Rattle.text.specs.declared.scan.Fault.{Fault}
 use Rattle.text.specs.Inner.Places.{Stands, Agree, Language, Begins, Stops, StopsLine}
 use Rattle.trace_lines.specs.Inner.LettersReader.{further, listed, Any, NonEmpty, Spelled, LettersStand, finite_rest, lasso_rest, whole_line, ListsRead}
 use Rattle.trace_lines.specs.declared.Lengths.{Lengths}
-use Rattle.text.proofs.ReadingLaw.{breaks-at, front-sets}
-use Rattle.table.proofs.StoreLaw.{and-false}
-use Rattle.text.proofs.PlaceLaw.{agree_self, agree_less, halts-first, halts-after, stops_line, Nothing, stops_end}
+use Rattle.text.proofs.ReadingLaw.{breaks-at, front-sets, front-take}
+use Rattle.std.proofs.lemmas.Bool.{and_right}
+use Rattle.text.proofs.PlaceLaw.{agree_less, halts-first, halts-after, stops_line, Nothing, stops_end}
 use Rattle.text.proofs.NumberLaw.{ending_unique}
 use Rattle.trace_lines.proofs.LettersLaw.{list_unique}
 
@@ -213,6 +213,12 @@ pub no-trace : (s l m : List ℕ) {p : ℕ} → length s ≤ most_bytes → Stop
 no-trace s l m {p} h a =
     (record { reading = breaks h p (breaks-at (λ w (lead, loop, e). (trace lead loop, e)) (λ t. (t.lead, t.loop, refl)) a); reason = refl }, refl, refl)
 
+-- Letters that were put into the list c, and copied from there into the list l.
+copied : (xs c l : List ℕ) {n : ℕ} {c' l' : List ℕ} → n ≡ length xs → length xs ≤ length c → length xs ≤ length l → c' ≡ sets c 0 xs
+    → l' ≡ sets l 0 (take n c') → l' ≡ front xs l
+copied xs c l {n} e h g p q =
+    q ∙ ap (λ (y : List ℕ). sets l 0 (take n y)) (p ∙ front-sets xs c h) ∙ ap (sets l 0) (front-take xs c n e) ∙ front-sets xs l g
+
 -- The line spells lead and loop.
 module _ {s : List ℕ} (l m lead loop : List ℕ) (h : length s ≤ most_bytes) (e : s ≡ trace_line lead loop) where
   abbrev t : TraceLists
@@ -242,36 +248,24 @@ module _ {s : List ℕ} (l m lead loop : List ℕ) (h : length s ≤ most_bytes)
       pub no-room-loop : length m < k.cycle → TraceAnswer s l m (Err ListRoom) l m
       unfolding trace_limits trace_refusal
       no-room-loop i =
-          refuses ListRoom (rw (x.0, few, and-false (leb (length lead) (length l)) (leb (length loop) (length m)) (lt-leb (length loop) (length m) (omega (arith, x.2)))))
+          refuses ListRoom (rw (x.0, few, and_right (leb (length lead) (length l)) (leb (length loop) (length m)) (lt-leb (length loop) (length m) (omega (arith, x.2)))))
 
       module _ (u : k.lead ≤ length l) (v : k.cycle ≤ length m) where
         room : trace_refusal (length l) (length m) t ≡ none
         unfolding trace_limits trace_refusal
         room = rw (x.0, few, le-leb (length lead) (length l) (omega (arith, x.1)), le-leb (length loop) (length m) (omega (arith, x.2)))
 
-        pub letters-read : (l' m' : List ℕ) (r : Result (Option Lengths) Fault) → ListsRead whole_line s 0 l m l' m' r → TraceAnswer s l m (Ok k) l' m'
-        letters-read l' m' r y =
-            let (p, q) = go r y in (
-              t,
-              record { short = h; is = e; within = room },
-              x.1,
-              x.2,
-              p ∙ front-sets lead l (omega (arith, x.1)),
-              q ∙ front-sets loop m (omega (arith, x.2)),
-            )
-          where
-            same : (lead' loop' : List ℕ) → s ≡ trace_line lead' loop' → (lead ≡ lead') × (loop ≡ loop')
-            same lead' loop' f = trace_injective lead loop lead' loop' (sym e ∙ f)
-
-            small : (lead' loop' : List ℕ) → (lead ≡ lead') × (loop ≡ loop') → (large_letter lead' || large_letter loop') ≡ false
-            small lead' loop' w = ap (λ (i : List ℕ). large_letter i || large_letter loop') (sym w.0) ∙ ap (λ (i : List ℕ). large_letter lead || large_letter i) (sym w.1) ∙ x.0
-
-            go : (r : Result (Option Lengths) Fault) → ListsRead whole_line s 0 l m l' m' r → (l' ≡ sets l 0 lead) × (m' ≡ sets m 0 loop)
-            go (Err f) z = absurd (z.none s (agree_self (suc f.0) s) (lead, loop, e))
-            go (Ok None) (lead', loop', f, z) = let w = small lead' loop' (same lead' loop' f) in cc
-            go (Ok (Some k')) (lead', loop', f, z) =
-                let w = same lead' loop' f in
-                (z.3 ∙ ap (sets l 0) (sym w.0), z.4 ∙ ap (sets m 0) (sym w.1))
+        -- They were read into the lists c and d and copied.
+        pub letters-read : (c d : List ℕ) {c' d' l' m' : List ℕ} → 64 ≤ length c → 64 ≤ length d → c' ≡ sets c 0 lead → d' ≡ sets d 0 loop
+            → l' ≡ sets l 0 (take k.lead c') → m' ≡ sets m 0 (take k.cycle d') → TraceAnswer s l m (Ok k) l' m'
+        letters-read c d i i' p p' q q' = (
+          t,
+          record { short = h; is = e; within = room },
+          x.1,
+          x.2,
+          copied lead c l x.1 (omega (arith, x.1)) (omega (arith, x.1)) p q,
+          copied loop d m x.2 (omega (arith, x.2)) (omega (arith, x.2)) p' q',
+        )
 
 pub large_refused : {s : List ℕ} (l m c d c' d' : List ℕ) {x : Refusal} → length s ≤ most_bytes → (r : Option Lengths)
     → ListsRead whole_line s 0 c d c' d' (Ok r) → ok_or r LargeLetter ≡ Err x → TraceAnswer s l m (Err x) l m

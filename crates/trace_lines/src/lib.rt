@@ -8,6 +8,7 @@ ghost use Rattle.text.specs.Inner.Places.{CursorIn};
 ghost use Rattle.trace_lines.specs.Inner.LettersReader.{LetterRead, LettersRead, further, listed, Any, NonEmpty, ListsRead, both_counted, finite_rest, lasso_rest, whole_line};
 
 use logic::{LARGEST_LETTER, Letter};
+use text::copy::copy_front;
 use text::put::put;
 use text::scan;
 use text::scan::{Cursor, Fault};
@@ -23,8 +24,8 @@ pub struct Lengths {
     pub cycle: usize,
 }
 
-// One letter more, put behind those that were read. Their count is none once one is too large. The list and the count stay two parameters: a struct that held the lent
-// list would need a clause in each contract that it still is that list.
+// One letter more, put behind those that were read. Their count is none once one is too large. The list and the count stay two parameters: as a struct of both they
+// would come with a clause in each contract that the struct still holds the same list.
 fn read_letter(
     cursor: &mut Cursor,
     out: &mut [Letter],
@@ -38,7 +39,7 @@ fn read_letter(
     let (Some(n), Some(letter)) = (count, letter) else {
         return Ok(None);
     };
-    put(out, n, letter as Letter);
+    put(out, n, letter as Letter); // within the limit, so that it fits
     Ok(Some(n + 1))
 }
 
@@ -119,7 +120,7 @@ fn read_lasso(
     Ok(both(leads, loops))
 }
 
-// A trace line; no lengths where a letter is too large.
+// A trace line; no lengths where a letter is too large. Its two lists stay two parameters, as C lends them.
 fn read_lists(
     line: &[u8],
     lead: &mut [Letter],
@@ -140,7 +141,7 @@ fn read_lists(
     Err(no_finite.further(no_lasso))
 }
 
-// A trace line's letters into the two lent lists. The line is read twice: first with no room, and again where nothing is to be refused.
+// A trace line's letters into the two lent lists. They are read into lists with room for all that a verdict takes, and copied where nothing is to be refused.
 pub fn read_trace(
     line: &[u8],
     lead: &mut [Letter],
@@ -151,13 +152,16 @@ pub fn read_trace(
     if scan::MOST_BYTES < line.len() {
         return Err(Refusal::LongLine);
     }
-    let lengths = read_lists(line, &mut [], &mut [])?.ok_or(Refusal::LargeLetter)?;
+    let mut leads = [0; MOST_LETTERS];
+    let mut loops = [0; MOST_LETTERS];
+    let lengths = read_lists(line, &mut leads, &mut loops)?.ok_or(Refusal::LargeLetter)?;
     if MOST_LETTERS < lengths.lead || MOST_LETTERS - lengths.lead < lengths.cycle {
         return Err(Refusal::ManyLetters);
     }
     if lead.len() < lengths.lead || cycle.len() < lengths.cycle {
         return Err(Refusal::ListRoom);
     }
-    let _ = read_lists(line, lead, cycle);
+    copy_front(&leads[..lengths.lead], lead);
+    copy_front(&loops[..lengths.cycle], cycle);
     Ok(lengths)
 }

@@ -2,26 +2,27 @@
 use mathlib.Core.Path.{◌≡◌, refl, sym, ap, subst, ◌∙◌}
 use mathlib.Core.Bool.{Bool, true, false}
 use mathlib.Core.Option.{Option, none, some}
-use mathlib.Core.List.{List, [], ◌++◌}
-use Prim.Native.Nat.{ℕ, suc, ◌+◌, ◌*◌, ◌-◌, ◌≤◌, ◌<◌}
+use mathlib.Core.List.{List, [], ◌∷◌, ◌++◌}
+use Prim.Native.Nat.{ℕ, suc, ◌+◌, ◌*◌, ◌≤◌, ◌<◌}
 use native.Mathlib.Omega.{arith}
 use lib.Dec.{leb}
-use lib.ListN.{length, take, drop}
+use lib.ListN.{length, get_or, take, drop}
 use lib.Seq.{sets-eq, take_at}
 use borrow.Author.Tests.{le-leb, lt-leb, leb-true}
-use Rattle.std.specs.Prelude.{Ok, Err}
+use Rattle.std.specs.Prelude.{Ok, Err, sum_by}
+use Rattle.std.proofs.lemmas.List.Sums.{sum_by-cons}
 use Rattle.trace.specs.declared.refusal.Refusal.{Refusal}
 use Rattle.trace.specs.declared.refusal.Refusal.TheVariants.{TableRoom}
 use Rattle.trace.specs.Refusal.{unless, or_else}
-use Rattle.table.specs.Node.{Node, ◌▸◌, count, kind_at}
+use Rattle.table.specs.Node.{Node, NodesOf, ◌▸◌, kind_at}
+use Rattle.logic.specs.Formula.{Formula}
 use Rattle.psl.specs.Size.{weigh}
 use Rattle.psl.specs.Table.{formula_of}
-use Rattle.psl.specs.Check.{boolean_kinds, psl_refusal, total}
+use Rattle.psl.specs.Check.{psl_refusal, total}
 use Rattle.psl.specs.Accepted.{PslTable}
-use Rattle.psl.specs.Inner.Parts.{formula_at}
-use Rattle.psl.proofs.PartLaw.{part-root}
+use Rattle.psl.proofs.SumLaw.{total_front}
 use Rattle.psl.proofs.TreeLaw.{tree_weight, tree_nodes}
-use Rattle.psl.proofs.AcceptedLaw.{some-node, most-nodes, root-formula}
+use Rattle.psl.proofs.AcceptedLaw.{most-nodes}
 use Rattle.ltl.specs.Table.{true_node, not_node}
 use Rattle.translate.specs.Emitted.{added_by, walked, emitted, emitted_size, most_emitted}
 use Rattle.translate.specs.Inner.Stored.{Room, Walks}
@@ -33,63 +34,52 @@ use Rattle.translate.proofs.EmittedLaw.{emitted-accepted}
 
 -- ── The size, by the table's kinds ──
 
--- S so far, over the first i nodes of a table of n.
-pub record SizeSoFar (t : List ℕ) (n s i : ℕ) : Type 0 where
-  pub nodes : n ≡ count t
-  pub within : i ≤ n
-  pub sum : s ≡ 2 + total (λ j. added_by (kind_at t j)) i
-  pub low : s ≤ 2 + 4 * i
+-- What a node adds, as the sum reads it.
+abbrev pub added : List ℕ → ℕ
+added x = added_by (get_or x 0 0)
 
-pub size-next : {t : List ℕ} {n s i : ℕ} (a : ℕ) → i < n → a ≡ added_by (kind_at t i) → a ≤ 4 → SizeSoFar t n s i → SizeSoFar t n (s + a) (i + 1)
+-- A sum over a list, by its places.
+sum_total : (f : List ℕ → ℕ) (g : ℕ → ℕ) (xs : List (List ℕ)) → ((i : ℕ) → i < length xs → f (get_or xs i []) ≡ g i) → sum_by f xs ≡ total g (length xs)
 unfolding total
-size-next {t} {n} {s} {i} a h e u S =
-    let k : i + 1 ≡ suc i = omega arith in
-    record {
-      nodes = S.nodes;
-      within = omega arith;
-      sum = omega (arith, S.sum, e, ap (total (λ j. added_by (kind_at t j))) k);
-      low = omega (arith, S.low);
-    }
+sum_total f g [] h = refl
+sum_total f g (x ∷ xs) h =
+    let e : f x ≡ g 0 = h 0 (omega arith) in
+    omega (arith, sum_by-cons f x xs, sum_total f (λ i. g (suc i)) xs (λ i l. h (suc i) (omega arith)), total_front g (length xs))
 
-pub size-last : {t : List ℕ} {n s i : ℕ} → psl_refusal t ≡ none → n ≤ i → SizeSoFar t n s i → s ≡ emitted_size (formula_of t)
-size-last {t} {n} {s} {i} e h S =
-    let z : i ≡ count t = omega (arith, S.nodes, S.within) in
-    omega (arith, S.sum, ap (total (λ j. added_by (kind_at t j))) z, tree_weight t e added_by)
+-- Summed over the nodes it is the formula's (the tree theorem).
+pub size_by : (table : PslTable) {xs : List (List ℕ)} → let t = table.numbers.now in NodesOf t xs → 2 + sum_by added xs ≡ emitted_size (formula_of t)
+size_by table {xs} ns =
+    let t = table.numbers.now in
+    let g = λ (j : ℕ). added_by (kind_at t j) in
+    omega (
+      arith,
+      sum_total added g xs (λ i h. ap added (ns.node_is i (omega (arith, ns.nodes)))),
+      ap (total g) ns.nodes,
+      tree_weight t table.accepted added_by,
+    )
 
--- S by the root's formula, and its bound.
-pub size_of : (t : List ℕ) → emitted_size (formula_of t) ≡ 2 + weigh added_by (formula_at t (count t - 1))
-size_of t = ap emitted_size (part-root t)
-
+-- Its bound.
 pub size-most : (t : List ℕ) → psl_refusal t ≡ none → emitted_size (formula_of t) ≤ most_emitted
 size-most t e = size-bound (formula_of t) (omega (arith, tree_nodes t e, most-nodes t e))
 
 -- ── What the walk leaves ──
 
--- The walk may begin at the root, behind the first two nodes.
-pub asked_root : (table : PslTable) {l : List ℕ} {w₀ w₁ : Writer} {q i : ℕ} {f : List Node → List Node} → let t = table.numbers.now in
-    3 * emitted_size (formula_of t) ≤ length l → w₀.out.now ≡ l → w₀.nodes ≡ 0 → Walks 2 f w₀ w₁ q → i ≡ count t - 1
-    → (i < count t) × (boolean_kinds ≤ kind_at t i) × Room (weigh added_by (formula_at t i)) w₁
-asked_root table {l} {w₀} {w₁} {q} {i} room a b c z =
-    let t = table.numbers.now in
-    let e = table.accepted in
-    rw z (
-      omega (arith, some-node t e),
-      root-formula t e,
-      record { space = omega (arith, size_of t, room, ap length a, c.more, c.sized); fits = omega (arith, size_of t, size-most t e, c.more) },
-    )
+-- Behind the first two nodes there is room for the walk of the root's formula.
+pub asked_root : (table : PslTable) {l : List ℕ} {w₀ w₁ : Writer} {q : ℕ} {f : List Node → List Node} {g : Formula} → let t = table.numbers.now in
+    3 * emitted_size (formula_of t) ≤ length l → w₀.out.now ≡ l → w₀.nodes ≡ 0 → Walks 2 f w₀ w₁ q → g ≡ formula_of t → Room (weigh added_by g) w₁
+asked_root table {l} {w₀} {w₁} room a b c z =
+    rw z record { space = omega (arith, room, ap length a, c.more, c.sized); fits = omega (arith, size-most table.numbers.now table.accepted, c.more) }
 
 -- Node 0 is true, the next one not 0, the rest the walk's.
-pub emits : (t l : List ℕ) {w₀ w₁ w₂ w₃ : Writer} {p q r i : ℕ} → i ≡ count t - 1
-    → 3 * emitted_size (formula_of t) ≤ length l → w₀.out.now ≡ l → w₀.nodes ≡ 0 → Walks 1 (λ ns. ns ▸ true_node) w₀ w₁ p → Walks 1 (λ ns. ns ▸ not_node p) w₁ w₂ q
-    → Walks (weigh added_by (formula_at t i)) (walked (formula_at t i) q q) w₂ w₃ r → w₃.out.now ≡ emitted (formula_of t) ++ drop (length (emitted (formula_of t))) l
+pub emits : {f g : Formula} (l : List ℕ) {w₀ w₁ w₂ w₃ : Writer} {p q r : ℕ} → g ≡ f
+    → 3 * emitted_size f ≤ length l → w₀.out.now ≡ l → w₀.nodes ≡ 0 → Walks 1 (λ ns. ns ▸ true_node) w₀ w₁ p → Walks 1 (λ ns. ns ▸ not_node p) w₁ w₂ q
+    → Walks (weigh added_by g) (walked g q q) w₂ w₃ r → w₃.out.now ≡ emitted f ++ drop (length (emitted f)) l
 unfolding emitted
-emits t l {w₀} {w₁} {w₂} {w₃} {p} {q} {r} {i} x room y z a b c =
-    let f = formula_of t in
+emits {f} l {p = p} {q = q} x room y z a b c =
     let zero : p ≡ 0 = omega (arith, a.last, a.more) in
     let one : q ≡ 1 = omega (arith, a.more, b.last, b.more) in
-    let g : formula_at t i ≡ f = ap (formula_at t) x ∙ sym (part-root t) in
     let d = rw zero at b in
-    let v = rw (g, one) at c in
+    let v = rw (x, one) at c in
     let s = v.stores l _ (d.stores l _ (a.stores l [] (record { count = z; is = y }))) in
     let k : 0 + length (emitted f) ≡ length (emitted f) = omega arith in
     s.is ∙ sets-eq (emitted f) l 0 (omega (arith, length-emitted f)) ∙ ap (λ (k : ℕ). emitted f ++ drop k l) k

@@ -10,7 +10,7 @@ use Rattle.logic.specs.Letter.{signals}
 use Rattle.table.specs.Node.{Node, node, count, kind_at, left_at, right_at, ◌▸◌, last}
 use Rattle.table.specs.Rules.{operand, unused, signal, shape_of}
 use Rattle.table.specs.Check.{table_refusal}
-use Rattle.table.proofs.NodeLaw.{length_more}
+use Rattle.std.proofs.SliceLists.{length_more}
 use Rattle.table.proofs.CheckLaw.{Fits, table_sound, kind_in}
 use Rattle.table.proofs.PassesLaw.{PassFrom, pass_none, pass_more, nodes_pass}
 use Rattle.table.proofs.KindLaw.{◌⨾◌, each}

@@ -6,7 +6,8 @@ use native.Mathlib.Omega.{arith}
 use lib.ListN.{length, set}
 use lib.Seq.{sets}
 use Rattle.table.specs.Node.{Node, node, numbers_of, ◌▸◌, last}
-use Rattle.table.proofs.NodeLaw.{length-numbers, length_more}
+use Rattle.std.proofs.SliceLists.{length_more}
+use Rattle.table.proofs.NodeLaw.{length-numbers}
 use Rattle.table.proofs.StoreLaw.{sets-sets, numbers_more}
 use Rattle.ltl.specs.Table.{not_node, and_node, or_node}
 use Rattle.translate.specs.declared.writer.Writer.{Writer}

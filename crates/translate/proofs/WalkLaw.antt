@@ -5,7 +5,8 @@ use mathlib.Core.List.{List, [], ◌∷◌}
 use native.Mathlib.Omega.{arith}
 use lib.ListN.{length}
 use Rattle.table.specs.Node.{Node, ◌▸◌, last, look, grow}
-use Rattle.table.proofs.NodeLaw.{nodes-numbers, length-numbers, length_more, length-grow, Named, Grown, grown_one, grown_join}
+use Rattle.std.proofs.SliceLists.{length_more}
+use Rattle.table.proofs.NodeLaw.{nodes-numbers, length-numbers, length-grow, Named, Grown, grown_one, grown_join}
 use Rattle.logic.specs.Formula.{BoolExpr, btrue, var, bnot, band, Formula, weak, strong, fnot, fand, next, until, abort}
 use Rattle.psl.specs.Size.{weigh_b, weigh, node_count}
 use Rattle.logic.specs.Tree.{Ltl, ltrue, lvar, lnot, land, lor, lnext, luntil}

@@ -1,3 +1,2 @@
 -- What the inner functions promise.
 pub mod Stored
-pub mod Joins

@@ -3,21 +3,17 @@
 
 mod writer;
 
-ghost use Rattle.std.specs.Prelude.{◌≡◌, ◌++◌, ◌+◌, ◌*◌, ◌<◌, ◌≤◌, length, drop};
-ghost use Rattle.table.specs.Node.{count, kind_at};
-ghost use Rattle.psl.specs.Kind.{number as psl_number};
+ghost use Rattle.std.specs.Prelude.{◌≡◌, ◌++◌, ◌+◌, ◌*◌, ◌≤◌, length, drop};
 ghost use Rattle.psl.specs.Size.{weigh_b, weigh};
 ghost use Rattle.psl.specs.Table.{formula_of};
-ghost use Rattle.psl.specs.Inner.Parts.{boolean_at, formula_at};
-ghost use Rattle.psl.specs.Check.{boolean_kinds};
+ghost use Rattle.psl.specs.Nodes.{boolean, formula};
 ghost use Rattle.translate.specs.Emitted.{added_by, emitted, emitted_size, gated, walked_b, walked};
 ghost use Rattle.translate.specs.Inner.Stored.{Room, Walks};
-ghost use Rattle.translate.specs.Inner.Joins.{Joins};
 ghost use Rattle.translate.specs.Answer.{Delivers};
 
 use ltl::Kind;
-use psl::{Kind as PslKind, PslTable};
-use table::NodeNo;
+use psl::{BooleanNode, BooleanParts, FormulaNode, FormulaParts, Kind as PslKind, PslTable};
+use table::{Node, NodeNo};
 use trace::Refusal;
 use writer::Writer;
 
@@ -39,91 +35,82 @@ impl Marks {
     }
 }
 
-// A Boolean: its operands, then one node.
-fn walk_boolean(t: PslTable<'_>, i: NodeNo, w: &mut Writer<'_>) -> NodeNo
-    requires { (i.0 < count t.numbers.now) × (kind_at t.numbers.now i.0 < boolean_kinds)
-        × Room (weigh_b added_by (boolean_at t.numbers.now i.0)) w.old }
-    ensures { Walks (weigh_b added_by (boolean_at t.entry.numbers.now i.0)) (walked_b (boolean_at t.entry.numbers.now i.0)) w.old w.new result.0 }
+// A Boolean: its operands, then one node. These recursions stand beside those of the PSL verdict: their values are nodes and not rows or truths, and one fold with a
+// closure for each kind is no plainer. `Room` and `Walks` stand in several contracts, as amounts and walks differ from call to call: no ghost field could say them.
+fn walk_boolean(n: BooleanNode<'_>, w: &mut Writer<'_>) -> NodeNo
+    requires { Room (weigh_b added_by (boolean n)) w.old }
+    ensures { Walks (weigh_b added_by (boolean n.entry)) (walked_b (boolean n.entry)) w.old w.new result.0 }
 {
-    let node = t.node(i);
-    match node.kind {
-        PslKind::True => w.leaf(Kind::True, 0),
-        PslKind::Var => w.leaf(Kind::Var, node.left),
-        PslKind::Bnot => {
-            let x = walk_boolean(t, NodeNo(node.left), w);
+    match n.parts() {
+        BooleanParts::True => w.leaf(Kind::True, 0),
+        BooleanParts::Var(k) => w.leaf(Kind::Var, k),
+        BooleanParts::Bnot(b) => {
+            let x = walk_boolean(b, w);
             w.unary(Kind::Not, x)
         }
-        _ => {
-            let x = walk_boolean(t, NodeNo(node.left), w);
-            let y = walk_boolean(t, NodeNo(node.right), w);
+        BooleanParts::Band(b, c) => {
+            let x = walk_boolean(b, w);
+            let y = walk_boolean(c, w);
             w.binary(Kind::And, x, y)
         }
     }
 }
 
 // A Boolean under its gate: weak, strong, and an abort's condition.
-fn literal(t: PslTable<'_>, i: NodeNo, marks: Marks, w: &mut Writer<'_>) -> NodeNo
-    requires { (i.0 < count t.numbers.now) × (kind_at t.numbers.now i.0 < boolean_kinds)
-        × Room (weigh_b added_by (boolean_at t.numbers.now i.0) + 3) w.old }
-    ensures { Walks (weigh_b added_by (boolean_at t.entry.numbers.now i.0) + 3)
-        (λ ns. gated marks.accept.0 marks.reject.0 (walked_b (boolean_at t.entry.numbers.now i.0) ns)) w.old w.new result.0 }
+fn literal(n: BooleanNode<'_>, marks: Marks, w: &mut Writer<'_>) -> NodeNo
+    requires { Room (weigh_b added_by (boolean n) + 3) w.old }
+    ensures { Walks (weigh_b added_by (boolean n.entry) + 3)
+        (λ ns. gated marks.accept.0 marks.reject.0 (walked_b (boolean n.entry) ns)) w.old w.new result.0 }
 {
-    let x = walk_boolean(t, i, w);
+    let x = walk_boolean(n, w);
     w.gate(x, marks)
 }
 
-// The LTL kind of an and or an until.
-fn joining(kind: PslKind) -> Kind
-    ensures { Joins kind result }
-{
-    match kind {
-        PslKind::Until => Kind::Until,
-        _ => Kind::And,
-    }
-}
-
 // A formula, with the numbers of accept and reject.
-fn walk(t: PslTable<'_>, i: NodeNo, marks: Marks, w: &mut Writer<'_>) -> NodeNo
-    requires { (i.0 < count t.numbers.now) × (boolean_kinds ≤ kind_at t.numbers.now i.0)
-        × Room (weigh added_by (formula_at t.numbers.now i.0)) w.old }
-    ensures { Walks (weigh added_by (formula_at t.entry.numbers.now i.0))
-        (walked (formula_at t.entry.numbers.now i.0) marks.accept.0 marks.reject.0) w.old w.new result.0 }
+fn walk(n: FormulaNode<'_>, marks: Marks, w: &mut Writer<'_>) -> NodeNo
+    requires { Room (weigh added_by (formula n)) w.old }
+    ensures { Walks (weigh added_by (formula n.entry))
+        (walked (formula n.entry) marks.accept.0 marks.reject.0) w.old w.new result.0 }
 {
-    let node = t.node(i);
-    let left = NodeNo(node.left);
-    let right = NodeNo(node.right);
-    match node.kind {
-        PslKind::Not => {
-            let x = walk(t, left, marks.exchanged(), w);
+    match n.parts() {
+        // Two arms: what both together bind has no name of the source in a proof.
+        FormulaParts::Weak(b) => literal(b, marks, w),
+        FormulaParts::Strong(b) => literal(b, marks, w),
+        FormulaParts::Not(f) => {
+            let x = walk(f, marks.exchanged(), w);
             w.unary(Kind::Not, x)
         }
-        PslKind::And | PslKind::Until => {
-            let x = walk(t, left, marks, w);
-            let y = walk(t, right, marks, w);
-            w.binary(joining(node.kind), x, y)
+        FormulaParts::And(f, g) => {
+            let x = walk(f, marks, w);
+            let y = walk(g, marks, w);
+            w.binary(Kind::And, x, y)
         }
-        PslKind::Next => {
-            let x = walk(t, left, marks, w);
+        FormulaParts::Next(f) => {
+            let x = walk(f, marks, w);
             let y = w.unary(Kind::Next, x);
             w.gate(y, marks)
         }
-        PslKind::Abort => {
-            let x = literal(t, right, marks, w);
-            walk(t, left, Marks { accept: x, ..marks }, w)
+        FormulaParts::Until(f, g) => {
+            let x = walk(f, marks, w);
+            let y = walk(g, marks, w);
+            w.binary(Kind::Until, x, y)
         }
-        // weak, strong
-        _ => literal(t, left, marks, w),
+        FormulaParts::Abort(f, b) => {
+            let x = literal(b, marks, w);
+            walk(f, Marks { accept: x, ..marks }, w)
+        }
     }
 }
 
-// How many nodes a PSL node of a kind adds to the emitted table.
+// How many nodes a PSL node adds to the emitted table, by the number of its kind: as a function of a kind, the sum's closure would have a case of its own for a number that is none, which no
+// accepted table has, and its proof no bound on the number.
 #[tactic(auto, unfolding(crate::specs::Emitted::added_by))]
-fn adds(kind: PslKind) -> usize
-    ensures { (result ≡ added_by (psl_number kind)) × (result ≤ 4) }
+fn adds(kind: u16) -> usize
+    ensures { (result ≡ added_by kind) × (result ≤ 4) }
 {
-    match kind {
-        PslKind::Weak | PslKind::Strong | PslKind::Abort => 3,
-        PslKind::Next => 4,
+    match PslKind::try_from(kind) {
+        Ok(PslKind::Weak | PslKind::Strong | PslKind::Abort) => 3,
+        Ok(PslKind::Next) => 4,
         _ => 1,
     }
 }
@@ -132,11 +119,11 @@ fn adds(kind: PslKind) -> usize
 fn emitted_size(t: PslTable<'_>) -> usize
     ensures { result ≡ emitted_size (formula_of t.entry.numbers.now) }
 {
-    let mut s: usize = 2;
-    for i in 0..t.nodes() {
-        s += adds(t.node(NodeNo(i as u16)).kind);
-    }
-    s
+    let added: usize = table::nodes_of(t.numbers)
+        .iter()
+        .map(|x| adds(Node::from(*x).kind))
+        .sum();
+    2 + added
 }
 
 // The emitted table, into a list with room for it.
@@ -151,7 +138,7 @@ fn emit(t: PslTable<'_>, out: &mut [u16])
         accept: one,
         reject: one,
     };
-    walk(t, t.root(), marks, &mut w);
+    walk(FormulaNode::root(t), marks, &mut w);
 }
 
 // The LTL table of a PSL table. Refusals 1 to 8, then 10.

@@ -9,18 +9,18 @@ use crate::Marks;
 use ltl::Kind;
 use table::{Node, NodeNo};
 
-// Node n.
+// Node n, as the three numbers that C takes. There is room for it, which the reader of formula lines, whose `put_node` is like this, does not know.
 fn store(out: &mut [u16], n: NodeNo, node: Node<Kind>)
     requires { 3 * n.0 + 2 < length out.old }
     ensures { out.new ≡ set (set (set out.old (3 * n.0) (number node.kind)) (3 * n.0 + 1) node.left) (3 * n.0 + 2) node.right }
 {
-    let at = 3 * (n.0 as usize);
+    let at = n.start();
     out[at] = u16::from(node.kind);
     out[at + 1] = node.left;
     out[at + 2] = node.right;
 }
 
-// The lent list, and how many nodes stand in it, from its start.
+// The lent list, which C lends, and how many nodes stand in it, from its start.
 #[derive(Drop)]
 pub(crate) struct Writer<'a> {
     out: &'a mut [u16],
@@ -41,7 +41,7 @@ impl<'a> Writer<'a> {
         requires { Room 1 self.old }
         ensures { Walks 1 (λ ns. ns ▸ node (number added.kind) added.left added.right) self.old self.new result.0 }
     {
-        let n = NodeNo(self.nodes as u16);
+        let n = NodeNo::from_index(self.nodes);
         store(self.out, n, added);
         self.nodes += 1;
         n

@@ -11,7 +11,7 @@ use Rattle.std.proofs.KnownBytes.{Appends-nil, Appends-trans, Consumes-nil, Cons
 use Rattle.answers.specs.Whole.{Runs}
 use Rattle.run.specs.Inner.{Starts, goes_on, Going, Ends, Turns, no_turn, one_turn}
 use Rattle.run.specs.declared.Run.{Run}
-use Rattle.run.proofs.ProgressLaw.{never}
+use Rattle.std.proofs.lemmas.Bool.{both_ways}
 use Rattle.run.proofs.ClaimsLaw.{claims}
 use Rattle.turns.specs.Turn.{Moved, Whole}
 
@@ -25,11 +25,11 @@ moved_idle input input' output s m keeps =
       printed = [];
       takes = record {
         goes = λ _ read done a. subst (λ (x : List ℕ). Going (read ++ []) x s) (sym (append-nil done)) (subst (λ (x : List ℕ). Going x done s) (sym (append-nil read)) a);
-        ends = λ h. absurd (never m h);
+        ends = λ h. absurd (both_ways _ h m);
       };
       reads = Consumes-kept input input input' [] (Consumes-nil input) keeps;
       writes = Appends-nil output;
-      ends = λ _ h. absurd (never m h);
+      ends = λ _ h. absurd (both_ways _ h m);
     }
 
 -- What holds anyhow holds of a success.

@@ -7,37 +7,24 @@ ghost use Rattle.run.specs.Inner.{goes_on};
 ghost use Rattle.turns.specs.Turn.{Moved, Whole};
 
 use run::{BLOCK, NotTaken, Run};
-use std::fmt;
-use std::io::{Error, ErrorKind, Read, Write};
+use std::io::{self, ErrorKind, Read, Write};
+use thiserror::Error;
 
 // Why a run stops before its input ends.
-#[derive(Drop)]
+#[derive(Debug, Drop, Error)]
 pub enum Stop {
-    Input(Error),
-    Output(Error),
-    Block(NotTaken),
+    #[error("standard input: {0}")]
+    Input(io::Error),
+    #[error("standard output: {0}")]
+    Output(io::Error),
+    #[error(transparent)]
+    Block(#[from] NotTaken),
+    #[error("more blocks than can be counted")]
     ManyTurns,
 }
 
-impl From<NotTaken> for Stop {
-    fn from(e: NotTaken) -> Stop {
-        Stop::Block(e)
-    }
-}
-
-impl fmt::Display for Stop {
-    fn fmt<W: fmt::Write>(&self, f: &mut fmt::Formatter<W>) -> fmt::Result {
-        match self {
-            Stop::Input(e) => write!(f, "standard input: {e}"),
-            Stop::Output(e) => write!(f, "standard output: {e}"),
-            Stop::Block(e) => write!(f, "{e}"),
-            Stop::ManyTurns => write!(f, "more blocks than can be counted"),
-        }
-    }
-}
-
 // A read failed. One that was interrupted is tried again; any other stops the run, so that half a line is never taken for one.
-fn unless_interrupted(e: Error) -> Result<(), Stop>
+fn unless_interrupted(e: io::Error) -> Result<(), Stop>
     ensures again { error_kind e ≡ ErrorKind.Interrupted → IsOk result }
     ensures stops { error_kind e ≢ ErrorKind.Interrupted → IsErr result }
 {
@@ -52,6 +39,7 @@ fn take_turn<R: Read, W: Write>(input: &mut R, output: &mut W, run: &mut Run) ->
     requires { goes_on run.old ≡ true }
     ensures { OnOk result (Moved (R.remaining input.old) (R.remaining input.new) (W.contents output.old) (W.contents output.new) run.old run.new) }
 {
+    // `read` tells how much of it is in use.
     let mut block = [0u8; BLOCK];
     let n = match input.read(&mut block) {
         Ok(n) => n,
@@ -59,10 +47,7 @@ fn take_turn<R: Read, W: Write>(input: &mut R, output: &mut W, run: &mut Run) ->
     };
     run.advance(&block[..n])?;
     let printed = run.gathered();
-    match output.write_all(printed) {
-        Ok(()) => Ok(()),
-        Err(e) => Err(Stop::Output(e)),
-    }
+    output.write_all(printed).map_err(Stop::Output)
 }
 
 // A run from an input to an output, to the input's end or to a refused first line.

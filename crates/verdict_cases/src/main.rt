@@ -1,146 +1,127 @@
-// Both verdicts on the sentences with known verdicts, c1 to c12, the LTL one on the emitted table; then the borders. One line a case.
+// Both verdicts on the sentences with known verdicts, c1 to c12, the LTL one on the emitted table; then the borders. One line a case: 1 yes, 0 no, or 100 and the
+// refusal. Tables are plain numbers here, as C lends them.
 #![tactic(auto)]
 
 use logic::Letter;
-use report::say;
+use ltl_verdict::ltl_verdict;
+use psl_verdict::psl_verdict;
+use report::code;
 use std::io;
 use trace::{TraceView, Verdict};
+use translate::translate;
 
-// 1 yes, 0 no, or 100 and the refusal.
-fn code(v: Verdict) -> u64 {
-    match v {
-        Ok(yes) => u64::from(yes),
-        Err(x) => 100 + u64::from(u8::from(x)),
-    }
+// A name, a table, and the lead-in and the loop of a trace.
+type Case<'a> = (&'a str, &'a [u16], &'a [Letter], &'a [Letter]);
+
+const EVENTUALLY: [u16; 15] = [0, 0, 0, 5, 0, 0, 1, 0, 0, 5, 2, 0, 9, 1, 3];
+
+// p is signal 0, q is signal 1.
+const KNOWN: [Case<'static>; 13] = [
+    ("c1", &[1, 0, 0, 4, 0, 0], &[], &[]),
+    ("c2", &[1, 0, 0, 5, 0, 0], &[], &[]),
+    ("c3", &[1, 0, 0, 4, 0, 0, 6, 1, 0], &[], &[]),
+    ("c4", &[1, 0, 0, 2, 0, 0, 4, 1, 0], &[], &[]),
+    ("c5", &[0, 0, 0, 4, 0, 0, 8, 1, 0], &[0], &[]),
+    (
+        "c6",
+        &[1, 0, 0, 4, 0, 0, 6, 1, 0, 8, 2, 0, 6, 3, 0],
+        &[0],
+        &[],
+    ),
+    ("c7", &EVENTUALLY, &[0], &[1]),
+    ("c8", &EVENTUALLY, &[], &[0]),
+    (
+        "c9",
+        &[0, 0, 0, 2, 0, 0, 5, 1, 0, 0, 0, 0, 10, 2, 3],
+        &[0],
+        &[],
+    ),
+    (
+        "c10",
+        &[1, 1, 0, 5, 0, 0, 8, 1, 0, 1, 0, 0, 10, 2, 3, 6, 4, 0],
+        &[1],
+        &[],
+    ),
+    (
+        "c11",
+        &[
+            0, 0, 0, 5, 0, 0, 1, 0, 0, 10, 1, 2, 6, 3, 0, 1, 0, 0, 10, 4, 5,
+        ],
+        &[1],
+        &[],
+    ),
+    (
+        "c12",
+        &[1, 0, 0, 5, 0, 0, 1, 1, 0, 5, 2, 0, 9, 1, 3, 8, 4, 0],
+        &[],
+        &[2, 1],
+    ),
+    (
+        "p until q on loop 1",
+        &[1, 0, 0, 5, 0, 0, 1, 1, 0, 5, 2, 0, 9, 1, 3],
+        &[],
+        &[1],
+    ),
+];
+
+const ALWAYS: [u16; 6] = [0, 0, 0, 4, 0, 0];
+
+// How many letters, and a table that is refused before them.
+const BORDERS: [Case<'static>; 6] = [
+    ("64 letters, finite", &ALWAYS, &[1; 64], &[]),
+    ("64 letters, 1 and 63", &ALWAYS, &[1; 1], &[1; 63]),
+    ("65 letters, finite", &ALWAYS, &[1; 65], &[]),
+    ("65 letters, 64 and 1", &ALWAYS, &[1; 64], &[1; 1]),
+    ("65 letters, looping", &ALWAYS, &[], &[1; 65]),
+    ("refused table, 65 letters", &[0, 0, 0], &[1; 65], &[]),
+];
+
+const LTL_BORDERS: [Case<'static>; 4] = [
+    ("ltl, 65 letters", &[0, 0, 0], &[], &[1; 65]),
+    ("ltl, no letter", &[0, 0, 0], &[], &[]),
+    ("ltl, no node", &[], &[], &[]),
+    ("ltl, kind 7", &[7, 0, 0], &[1], &[]),
+];
+
+fn told(v: Verdict) -> u64 {
+    code(v.map(u64::from), 100)
 }
 
-// The LTL verdict of the emitted table, which is looked at up to the list's end.
-fn judge_translated(
-    rt: &impl Print,
-    t: &[u16],
-    out: &mut [u16],
-    trace: TraceView<'_>,
-) -> io::Result<()> {
-    match translate::translate(t, out) {
-        Err(x) => say(rt, "  not translated", u64::from(u8::from(x))),
+// The LTL verdict of the emitted table.
+fn judge_translated(rt: &impl Print, t: &[u16], trace: TraceView<'_>) -> io::Result<()> {
+    let mut out = [0; 300];
+    match translate(t, &mut out) {
+        Err(x) => println!(rt; "  not translated {}", u8::from(x)),
         Ok(s) => {
-            let end = s.saturating_mul(3).min(out.len());
-            say(
-                rt,
-                "  translated",
-                code(ltl_verdict::ltl_verdict(&out[..end], trace)),
-            )
+            let emitted = out.get(..s.saturating_mul(3)).unwrap_or(&out);
+            println!(rt; "  translated {}", told(ltl_verdict(emitted, trace)))
         }
     }
 }
 
-fn judge(
-    rt: &impl Print,
-    name: &str,
-    t: &[u16],
-    lead: &[Letter],
-    cycle: &[Letter],
-) -> io::Result<()> {
-    let trace = TraceView::new(lead, cycle);
-    say(rt, name, code(psl_verdict::psl_verdict(t, trace)))?;
-    let mut out = [0u16; 300];
-    judge_translated(rt, t, &mut out, trace)
+// Both verdicts of each case, the LTL one on the emitted table.
+fn judge(rt: &impl Print, cases: &[Case<'_>]) -> io::Result<()> {
+    for (name, t, lead, cycle) in cases {
+        let trace = TraceView::new(lead, cycle);
+        println!(rt; "{name} {}", told(psl_verdict(t, trace)))?;
+        judge_translated(rt, t, trace)?;
+    }
+    Ok(())
 }
 
-// p is signal 0, q is signal 1.
-fn known(rt: &impl Print) -> io::Result<()> {
-    judge(rt, "c1", &[1u16, 0, 0, 4, 0, 0], &[], &[])?;
-    judge(rt, "c2", &[1u16, 0, 0, 5, 0, 0], &[], &[])?;
-    judge(rt, "c3", &[1u16, 0, 0, 4, 0, 0, 6, 1, 0], &[], &[])?;
-    judge(rt, "c4", &[1u16, 0, 0, 2, 0, 0, 4, 1, 0], &[], &[])?;
-    judge(rt, "c5", &[0u16, 0, 0, 4, 0, 0, 8, 1, 0], &[0], &[])?;
-    judge(
-        rt,
-        "c6",
-        &[1u16, 0, 0, 4, 0, 0, 6, 1, 0, 8, 2, 0, 6, 3, 0],
-        &[0],
-        &[],
-    )?;
-    let eventually = [0u16, 0, 0, 5, 0, 0, 1, 0, 0, 5, 2, 0, 9, 1, 3];
-    judge(rt, "c7", &eventually, &[0], &[1])?;
-    judge(rt, "c8", &eventually, &[], &[0])?;
-    judge(
-        rt,
-        "c9",
-        &[0u16, 0, 0, 2, 0, 0, 5, 1, 0, 0, 0, 0, 10, 2, 3],
-        &[0],
-        &[],
-    )?;
-    judge(
-        rt,
-        "c10",
-        &[1u16, 1, 0, 5, 0, 0, 8, 1, 0, 1, 0, 0, 10, 2, 3, 6, 4, 0],
-        &[1],
-        &[],
-    )
-}
-
-fn more_known(rt: &impl Print) -> io::Result<()> {
-    let twice = [
-        0u16, 0, 0, 5, 0, 0, 1, 0, 0, 10, 1, 2, 6, 3, 0, 1, 0, 0, 10, 4, 5,
-    ];
-    judge(rt, "c11", &twice, &[1], &[])?;
-    judge(
-        rt,
-        "c12",
-        &[1u16, 0, 0, 5, 0, 0, 1, 1, 0, 5, 2, 0, 9, 1, 3, 8, 4, 0],
-        &[],
-        &[2, 1],
-    )?;
-    judge(
-        rt,
-        "p until q on loop 1",
-        &[1u16, 0, 0, 5, 0, 0, 1, 1, 0, 5, 2, 0, 9, 1, 3],
-        &[],
-        &[1],
-    )
-}
-
-// How many letters, and a table that is refused before them.
-fn borders(rt: &impl Print) -> io::Result<()> {
-    let always = [0u16, 0, 0, 4, 0, 0];
-    judge(rt, "64 letters, finite", &always, &[1; 64], &[])?;
-    judge(rt, "64 letters, 1 and 63", &always, &[1; 1], &[1; 63])?;
-    judge(rt, "65 letters, finite", &always, &[1; 65], &[])?;
-    judge(rt, "65 letters, 64 and 1", &always, &[1; 64], &[1; 1])?;
-    judge(rt, "65 letters, looping", &always, &[], &[1; 65])?;
-    judge(
-        rt,
-        "refused table, 65 letters",
-        &[0u16, 0, 0],
-        &[1; 65],
-        &[],
-    )?;
-    let one = [0u16, 0, 0];
-    say(
-        rt,
-        "ltl, 65 letters",
-        code(ltl_verdict::ltl_verdict(&one, TraceView::new(&[], &[1; 65]))),
-    )?;
-    say(
-        rt,
-        "ltl, no letter",
-        code(ltl_verdict::ltl_verdict(&one, TraceView::new(&[], &[]))),
-    )?;
-    say(
-        rt,
-        "ltl, no node",
-        code(ltl_verdict::ltl_verdict(&[], TraceView::new(&[], &[]))),
-    )?;
-    say(
-        rt,
-        "ltl, kind 7",
-        code(ltl_verdict::ltl_verdict(&[7u16, 0, 0], TraceView::new(&[1], &[]))),
-    )
+// The LTL verdict of each table as it stands.
+fn judge_ltl(rt: &impl Print, cases: &[Case<'_>]) -> io::Result<()> {
+    for (name, t, lead, cycle) in cases {
+        println!(rt;
+            "{name} {}",
+            told(ltl_verdict(t, TraceView::new(lead, cycle)))
+        )?;
+    }
+    Ok(())
 }
 
 fn main(rt: HostRuntime) -> io::Result<()> {
-    known(&rt)?;
-    more_known(&rt)?;
-    borders(&rt)
+    judge(&rt, &KNOWN)?;
+    judge(&rt, &BORDERS)?;
+    judge_ltl(&rt, &LTL_BORDERS)
 }

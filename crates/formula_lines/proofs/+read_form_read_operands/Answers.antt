@@ -75,7 +75,7 @@ pub read_operands-returns-in_ok-read-in-One-clause-read : goal.read_operands-ret
 read_operands-returns-in_ok-read-in-One-clause-read t c =
     let k = c.in-One.ensures in
     let a = rw (← k.1) at c.in_ok-read-in-One.ensures.read in
-    one-stands (number c.args.kind) a.1 a.2 k.0
+    rw c.last.ensures (one-stands (number c.args.kind) a.1 a.2 k.0)
 
 pub read_operands-returns-in_err-before-in-Two-clause-read : goal.read_operands-returns-in_err-before-in-Two-clause-read
 read_operands-returns-in_err-before-in-Two-clause-read t c =
@@ -107,4 +107,4 @@ read_operands-returns-in_ok-after-in-Two-clause-read t c =
     let a = rw (← k.1) at c.in_ok-before-in-Two.ensures.read in
     let o = rw c.in_ok-before-in-Two.ensures.line at c.in_ok-expect-in-Two.ensures.read in
     let b = rw (c.in_ok-expect-in-Two.ensures.line, c.in_ok-before-in-Two.ensures.line, ← k.2) at c.in_ok-after-in-Two.ensures.read in
-    two_stand (number c.args.kind) a.1 a.2 k.0 (o.stands a.2.stands.within) b.1 b.2 _ refl
+    rw (c.last-in-Two.ensures, c.last-in-Two-2.ensures) (two_stand (number c.args.kind) a.1 a.2 k.0 (o.stands a.2.stands.within) b.1 b.2 _ refl)

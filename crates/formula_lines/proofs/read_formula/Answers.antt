@@ -1,4 +1,4 @@
--- Each refusal from the reading with no room; then the same reading fills the lent list.
+-- Each refusal from the reading aside; then what was read is copied into the lent list.
 use native.Mathlib.Omega.{arith}
 use Rattle.std.proofs.lemmas.Result.{err_from_is_err_and}
 use Rattle.formula_lines.proofs.LineLaw.{no-formula, many_nodes, large_signal_lem, no_room, table-read}
@@ -27,4 +27,4 @@ returns-then-out-read c =
 pub returns : goal.returns
 returns c =
     let a = c.in_ok-read.ensures in
-    table-read c.args.out.now (omega arith) a.1 (omega arith) c.if-read.false (omega arith) c.read_whole-2.new.out c.read_whole-2.result c.read_whole-2.ensures
+    table-read c.args.out.now (omega arith) a.1 (omega arith) c.if-read.false (omega arith) (omega arith) _ c.copy_front.ensures

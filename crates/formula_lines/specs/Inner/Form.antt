@@ -1,8 +1,9 @@
 -- Forms of either sort as the reader meets them: `true`, `(var K)`, or the keyword of a kind with one or two operands.
-use Rattle.std.specs.Prelude.{◌≡◌, Bool, false, ◌||◌, List, [], ◌∷◌, ◌++◌, ℕ, zero, suc, get_or, T, leb}
+use Rattle.std.specs.Prelude.{◌≡◌, Bool, false, ◌||◌, List, [], ◌++◌, ℕ, T, leb}
 use Rattle.logic.specs.Letter.{signals}
 use Rattle.table.specs.Node.{Node, node, ◌▸◌, last}
 use Rattle.text.specs.Text.{text}
+use Rattle.formula_lines.specs.Inner.Kinds.{keyword, arity, left_sort, right_sort, kinds}
 use Rattle.text.specs.Inner.Words.{elem}
 use Rattle.text.specs.Spelling.{digits}
 
@@ -11,67 +12,6 @@ pub data Form : Type 0 where
   signal : ℕ → Form
   one : ℕ → Form → Form
   two : ℕ → Form → Form → Form
-
--- ── Kinds ──
-
--- The keyword of each kind from 0 on, with the space after it.
-unfoldable pub keyword : ℕ → List ℕ
-keyword k =
-    get_or (
-    []
-    ∷ text "var "
-    ∷ text "bnot "
-    ∷ text "band "
-    ∷ text "weak "
-    ∷ text "strong "
-    ∷ text "not "
-    ∷ text "and "
-    ∷ text "next "
-    ∷ text "until "
-    ∷ text "abort "
-    ∷ []
-    ) k []
-
--- How many forms each kind takes, and the sorts of the left and of the right one, 0 for a Boolean and 1 for a formula.
-pub record Arity : Type 0 where
-  pub forms : ℕ
-  pub left : ℕ
-  pub right : ℕ
-
-abbrev pub arity_is : ℕ → ℕ → ℕ → Arity
-arity_is a l r = record { forms = a; left = l; right = r }
-
-abbrev pub arities : List Arity
-arities =
-    arity_is 0 0 0
-    ∷ arity_is 0 0 0
-    ∷ arity_is 1 0 0
-    ∷ arity_is 2 0 0
-    ∷ arity_is 1 0 0
-    ∷ arity_is 1 0 0
-    ∷ arity_is 1 1 0
-    ∷ arity_is 2 1 1
-    ∷ arity_is 1 1 0
-    ∷ arity_is 2 1 1
-    ∷ arity_is 2 1 0
-    ∷ []
-
-unfoldable pub shape : ℕ → Arity
-shape k = get_or arities k (arity_is 0 0 0)
-
-abbrev pub arity : ℕ → ℕ
-arity k = (shape k).forms
-
-abbrev pub left_sort : ℕ → ℕ
-left_sort k = (shape k).left
-
-abbrev pub right_sort : ℕ → ℕ
-right_sort k = (shape k).right
-
--- The kinds of a sort that stand in brackets.
-abbrev pub kinds : ℕ → List ℕ
-kinds zero = 1 ∷ 2 ∷ 3 ∷ []
-kinds (suc so) = 4 ∷ 5 ∷ 6 ∷ 7 ∷ 8 ∷ 9 ∷ 10 ∷ []
 
 -- ── Forms of a sort, and of a kind ──
 

@@ -1,14 +1,16 @@
 -- What the reader of forms promises.
-use Rattle.std.specs.Prelude.{◌≡◌, ◌⊎◌, Bool, false, Result, Ok, Err, List, [], ◌∷◌, ◌++◌, ℕ, ◌+◌, ◌*◌, ◌≤◌, ◌<◌, length, drop, T}
+use Rattle.std.specs.Prelude.{◌≡◌, ◌⊎◌, Bool, false, Option, Some, None, Result, Ok, Err, List, [], ◌∷◌, ◌++◌, ℕ, ◌+◌, ◌*◌, ◌≤◌, ◌<◌, length, drop, T}
 use Rattle.std.proofs.lemmas.List.Edits.{sets}
 use Rattle.table.specs.Node.{Node, numbers_of}
+use Rattle.table.specs.Rules.{Use}
 use Rattle.logic.specs.Formula.{Formula}
 use Rattle.text.specs.Text.{text}
 use Rattle.formula_lines.specs.Spelling.{formula_line}
 use Rattle.psl.specs.Closing.{closing_nodes, large_signal}
 use Rattle.text.specs.Inner.Places.{Language, Begins, Stands, Halts, Stops, StopsLine}
 use Rattle.text.specs.Inner.Number.{NoDigit}
-use Rattle.formula_lines.specs.Inner.Form.{Form, truth, signal, one, two, keyword, arity, left_sort, right_sort, kinds, Sorted, OfKind, bytes, inner, closed, wide}
+use Rattle.formula_lines.specs.Inner.Kinds.{keyword, forms, sort, arity, left_sort, right_sort, kinds}
+use Rattle.formula_lines.specs.Inner.Form.{Form, truth, signal, one, two, Sorted, OfKind, bytes, inner, closed, wide}
 use Rattle.text.specs.Inner.Words.{elem}
 use Rattle.psl.specs.declared.kind.Kind.{Kind}
 use Rattle.psl.specs.declared.kind.Kind.TheVariants.{Var, Bnot, Band, Weak, Strong, Not, And, Next, Until, Abort}
@@ -44,6 +46,11 @@ sort_number Sort.Formula = 1
 abbrev pub kinds_of : Sort → List Kind
 kinds_of Sort.Boolean = Var ∷ Bnot ∷ Band ∷ []
 kinds_of Sort.Formula = Weak ∷ Strong ∷ Not ∷ And ∷ Next ∷ Until ∷ Abort ∷ []
+
+-- The sort of the form in a place, if one stands there.
+abbrev pub FormIn : Use → Option Sort → Type 0
+FormIn u None = forms u ≡ 0
+FormIn u (Some so) = (forms u ≡ 1) × (sort u ≡ sort_number so)
 
 -- What stands in a kind's brackets: as many forms as it takes, of their sorts.
 abbrev pub PartsAre : ℕ → Parts → Type 0

@@ -1,15 +1,18 @@
 -- `check_ltl` answers for the length, then for the lowest node that is refused.
 use mathlib.Core.Path.{◌≡◌, sym, ap, ◌∙◌}
 use mathlib.Core.Bool.{true, not}
+use Prim.Native.Nat.{ℕ}
 use native.Mathlib.Omega.{arith}
 use lib.ListN.{length}
+use Rattle.std.proofs.Common.{rules}
 use borrow.Author.Tests.{not-true, not-false}
 use Rattle.table.specs.Answer.{checked}
 use Rattle.table.specs.Node.{node_at}
 use Rattle.table.specs.Check.{length_fits, refusal_at}
 use Rattle.table.specs.Inner.Place.{node_low}
+use Rattle.table.proofs.NodeLaw.{node_read}
 use Rattle.table.proofs.CheckLaw.{refused-node, refused_none, lowest-zero, lowest-next}
-use Rattle.table.proofs.FirstLaw.{length-passed, length_failed, low_read, node_passed, node_failed}
+use Rattle.table.proofs.FirstLaw.{length-passed, length_failed, node_passed, node_failed}
 use Rattle.ltl.specs.Check.{ltl_rules}
 use Rattle.ltl.proofs.check_ltl.Goals as goal
 use Rattle.ltl.proofs.check_ltl.Goals.{Else-not-length_fits, After-low_node}
@@ -20,7 +23,12 @@ right_length e = length-passed ltl_rules e.args.t.now e.length_fits.ensures (ap 
 
 -- The tests of the node that was read are those of node i.
 low : (l : After-low_node) → l.low_node.result ≡ node_low ltl_rules l.loop-i.i (node_at l.args.t.now l.loop-i.i)
-low l = let n = l.node_in.ensures in l.low_node.ensures ∙ low_read ltl_rules l.args.t.now l.loop-i.i n.0 n.1 n.2
+low l =
+    let i = l.loop-i.i in
+    let own : l.from_index-own.result.0 ≡ i = search rules in
+    l.low_node.ensures
+    ∙ ap (node_low ltl_rules _) (node_read l.nodes_of-x-items.ensures i (omega arith) l.from.ensures)
+    ∙ ap (λ (m : ℕ). node_low ltl_rules m (node_at l.args.t.now i)) own
 
 pub returns-then-not-length_fits : goal.returns-then-not-length_fits
 returns-then-not-length_fits c = sym (ap checked (length_failed ltl_rules c.args.t.now c.length_fits.ensures (ap not c.if-not-length_fits.true)))
@@ -30,8 +38,11 @@ loop-i-init c = lowest-zero _
 
 pub returns-then-not-low_node : goal.returns-then-not-low_node
 returns-then-not-low_node c = let t = c.args.t.now in
-    refused-node ltl_rules t (right_length (goal.at.returns-then-not-low_node c).Else-not-length_fits) c.loop-i.i c.refused_at.result (omega arith) c.loop-i.invariant
-    (node_failed ltl_rules t c.loop-i.i (sym (low (goal.at.returns-then-not-low_node c).After-low_node) ∙ not-true _ (ap not c.if-not-low_node.true))) c.refused_at.ensures
+    let i = c.loop-i.i in
+    let own : c.from_index-own.result.0 ≡ i = search rules in
+    refused-node ltl_rules t (right_length (goal.at.returns-then-not-low_node c).Else-not-length_fits) i c.refused_at.result (omega arith) c.loop-i.invariant
+    (node_failed ltl_rules t i (sym (low (goal.at.returns-then-not-low_node c).After-low_node) ∙ not-true _ (ap not c.if-not-low_node.true)))
+    (rw own at c.refused_at.ensures)
 
 pub loop-i-preserved : goal.loop-i-preserved
 loop-i-preserved c = let t = c.args.t.now in

@@ -1,4 +1,4 @@
--- `refused_at` reads the node and the kinds of what its places name, 0 past the end of the list, as the definition does.
+-- `refused_at` reads the node and the kinds of what its places name, as the definition does.
 use mathlib.Core.Path.{ap, ◌∙◌}
 use Rattle.table.specs.Answer.{checked}
 use Rattle.table.specs.Rules.{boolean_kind}
@@ -7,6 +7,7 @@ use Rattle.table.proofs.refused_at.Goals as goal
 
 pub returns : goal.returns
 returns g c = let R = g.K.Kind.rules in
+    let n = c.node_in-n.ensures in
     c.check_node.ensures
-    ∙ ap checked (read-node R c.args.t.now c.args.i.0 c.number_at.ensures c.number_at-l.ensures c.number_at-r.ensures
-    (c.is_boolean-lb.ensures ∙ ap (boolean_kind R.sorts) c.number_at-2.ensures) (c.is_boolean-rb.ensures ∙ ap (boolean_kind R.sorts) c.number_at-3.ensures))
+    ∙ ap checked (read-node R c.args.t.now c.args.i.0 n.0 n.1 n.2
+    (c.is_boolean-left.ensures ∙ ap (boolean_kind R.sorts) c.node_in.ensures.0) (c.is_boolean-right.ensures ∙ ap (boolean_kind R.sorts) c.node_in-2.ensures.0))

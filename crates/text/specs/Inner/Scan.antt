@@ -25,10 +25,10 @@ abbrev pub EndRead : List ℕ → ℕ → Result Unit Fault → Type 0
 EndRead s at (Ok u) = length s ≤ at
 EndRead s at (Err f) = (at < length s) × (f.0 ≡ at)
 
--- The digit at a place, or that there is none.
-abbrev pub DigitRead : List ℕ → ℕ → Option ℕ → Type 0
-DigitRead s at (Some d) = (d < 10) × Stands ((48 + d) ∷ []) s at (at + 1)
-DigitRead s at None = NoDigit (drop at s)
+-- The digit at a place, and the place behind it; or there is none, and the place stays.
+abbrev pub DigitRead : List ℕ → ℕ → ℕ → Option ℕ → Type 0
+DigitRead s at next (Some d) = (d < 10) × (next ≡ at + 1) × Stands ((48 + d) ∷ []) s at next
+DigitRead s at next None = NoDigit (drop at s) × (next ≡ at)
 
 -- n is a value within the limit, or it is above.
 abbrev pub Counts : ℕ → ℕ → Option ℕ → Type 0

@@ -1,6 +1,6 @@
 -- Which words may stand at a place: each has a kind, and the kinds are a list.
-use Rattle.std.specs.Prelude.{Bool, false, ◌||◌, List, [], ◌∷◌, ℕ, eqb}
+use Rattle.std.specs.Prelude.{Bool, List, ℕ, eqb}
+use Rattle.std.specs.List.{list_any}
 
 abbrev pub elem : ℕ → List ℕ → Bool
-elem k [] = false
-elem k (j ∷ ks) = eqb j k || elem k ks
+elem k ks = list_any (λ j. eqb j k) ks

@@ -1,4 +1,4 @@
--- Each refusal from the reading with no room; then the same reading fills the lent lists.
+-- Each refusal from the one reading; then what it read is copied.
 use native.Mathlib.Omega.{arith}
 use mathlib.Core.Path.{sym, ◌∙◌}
 use Rattle.std.proofs.lemmas.Result.{err_from_is_err_and}
@@ -40,4 +40,4 @@ pub returns : goal.returns
 returns c =
     let r = rw c.in_ok-lengths.ensures.ok_part at c.in_ok-read_lists.ensures in
     letters-read c.args.lead.now c.args.cycle.now r.0 r.1 (omega arith) r.2 c.in_ok-lengths.lengths (r.3.0, r.3.1, r.3.2) (omega arith) (omega arith) (omega arith)
-    c.read_lists-2.new.lead c.read_lists-2.new.cycle c.read_lists-2.result c.read_lists-2.ensures
+    _ _ (omega arith) (omega arith) r.3.3 r.3.4 c.copy_front.ensures c.copy_front-2.ensures

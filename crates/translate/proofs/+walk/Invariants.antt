@@ -1,5 +1,6 @@
+-- The front that ends with an operand is shorter than its user's.
+use Rattle.std.proofs.Common.{length}
 use Rattle.translate.proofs.+walk.Given as goal
 
--- The walk goes down by the number of its node.
 abbrev pub decreases-walk : goal.decreases-walk
-decreases-walk l = l.i.0
+decreases-walk l = length l.n.front.now

@@ -2,5 +2,5 @@
 use Rattle.text.proofs.ScanLaw.{Begun}
 use Rattle.text.proofs.scan.Cursor.expect.Given as goal
 
-abbrev pub invariant-loop-b : goal.invariant-loop-b
-invariant-loop-b l = Begun l.word l.self.line.now l.self.at l.b-index l.next
+abbrev pub invariant-loop-i : goal.invariant-loop-i
+invariant-loop-i l = Begun l.word l.self.line.now l.self.at l.i

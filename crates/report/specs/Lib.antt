@@ -1,0 +1,2 @@
+-- What the functions that the programs of cases share promise.
+pub mod Shared

@@ -1,7 +1,0 @@
--- Past the end a store changes nothing.
-use mathlib.Core.Path.{sym}
-use lib.Seq.{set_out}
-use Rattle.text.proofs.put.put.Goals as goal
-
-pub returns-else-at-out : goal.returns-else-at-out
-returns-else-at-out g c = sym (set_out _ _ _ c.if-at-out.false)
