@@ -8,6 +8,7 @@ use trace::Refusal;
 pub enum Fault {
     #[error("not understood: try help")]
     NotUnderstood,
+    // By its number, which README tells of, and not by the refusal's own words.
     #[error("refused {}", u8::from(*.0))]
     Refused(#[from] Refusal),
     #[error("standard input: {0}")]

@@ -64,7 +64,8 @@ fn write_list(list: &[impl Display + Copy], out: &mut impl Write) -> io::Result<
     Ok(())
 }
 
-// A node's line without its byte 10, or why there is none. As many bytes are lent for it as the room allows.
+// A node's line without its byte 10, or why there is none. As many bytes of an array are lent for it, as C lends
+// them, as the room allows.
 fn write_line(no: NodeNo, node: Node<u16>, room: usize, out: &mut impl Write) -> io::Result<()> {
     let mut line = [0u8; 64];
     let n = room.min(line.len());
@@ -200,6 +201,7 @@ impl Kept {
             Request::CheckPsl(numbers) => check(&mut self.psl, &numbers, check_psl, out),
             Request::CheckLtl(numbers) => check(&mut self.ltl, &numbers, check_ltl, out),
             Request::Trace(line) => self.read_trace(line, out),
+            // The two lists of a trace, one a request.
             Request::LeadIn(letters) => {
                 self.lead.replace(&letters)?;
                 self.write_lengths(out)

@@ -8,7 +8,7 @@ use trace::{Moment, Refusal};
 
 const LARGEST: usize = usize::MAX;
 
-// A letter, or the number of the refusal.
+// A letter, or the number of the refusal, in the words of the stored output.
 #[derive(Clone, Copy)]
 struct Told(Result<Letter, Refusal>);
 
@@ -21,7 +21,7 @@ impl fmt::Display for Told {
     }
 }
 
-// Moments of a trace with their names: from the two lists, and by way of the view.
+// Moments of a trace with their names: from the two lists, and by way of the view. The lists are two parameters, since the functions that are tried take them so.
 fn look(
     rt: &impl Print,
     lead: &[Letter],

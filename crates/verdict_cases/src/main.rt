@@ -87,7 +87,7 @@ fn told(v: Verdict) -> u64 {
     code(v.map(u64::from), 100)
 }
 
-// The LTL verdict of the emitted table.
+// The LTL verdict of the emitted table, which is made in an array, as C lends one, of which as many numbers are in use as are told.
 fn judge_translated(rt: &impl Print, t: &[u16], trace: TraceView<'_>) -> io::Result<()> {
     let mut out = [0; 300];
     match translate(t, &mut out) {
@@ -109,7 +109,7 @@ fn judge(rt: &impl Print, cases: &[Case<'_>]) -> io::Result<()> {
     Ok(())
 }
 
-// The LTL verdict of each table as it stands.
+// The LTL verdict of each table as it stands. A loop of its own: of a case above two lines are printed.
 fn judge_ltl(rt: &impl Print, cases: &[Case<'_>]) -> io::Result<()> {
     for (name, t, lead, cycle) in cases {
         println!(rt;
