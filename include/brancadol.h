@@ -4,8 +4,8 @@
  * input, refused ones too: crates/brancadol/src/lib.rt has the contracts.
  * The library keeps no state, asks for no memory and calls nothing but memset,
  * so threads may call it at the same time. It needs stack, which the proofs do
- * not count: some 0.9 MB were measured for the deepest line that
- * brancadol_read_formula refuses, 0.3 MB for the deepest that it takes, and less
+ * not count: some 0.6 MB were measured for the deepest line that
+ * brancadol_read_formula refuses, 0.2 MB for the deepest that it takes, and less
  * than that for all else. Link with -lbrancadol; x86-64 Linux.
  *
  * ANSWERS. A function answers one number: number + 256 * value.

@@ -42,7 +42,7 @@ pub fn show<T: Display>(rt: &impl Print, l: &[T]) -> io::Result<()> {
 
 // Node i of a tower.
 fn tower_node(i: usize, second: u16, later: u16) -> [u16; 3]
-    ensures { i < 65536 → result ≡ tower_node second later i }
+    ensures { result ≡ tower_node second later i }
 {
     match i {
         0 => [0, 0, 0],
@@ -53,7 +53,7 @@ fn tower_node(i: usize, second: u16, later: u16) -> [u16; 3]
 
 // The nodes of a table: node 0 is true, node 1 of the one kind and each later node of the other, and each names the one before it. The kinds are numbers: some towers are of PSL and some of LTL.
 pub fn tower<const N: usize>(second: u16, later: u16) -> [[u16; 3]; N]
-    ensures { N ≤ 65536 → (i : ℕ) → i < N → get_or result i [] ≡ tower_node second later i }
+    ensures { (i : ℕ) → i < N → get_or result i [] ≡ tower_node second later i }
 {
     let mut nodes = [[0u16; 3]; N];
     for (i, node) in nodes.iter_mut().enumerate() {

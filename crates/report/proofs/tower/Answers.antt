@@ -7,15 +7,15 @@ use lib.ListN.{length-set}
 use Rattle.report.specs.Shared.{tower_node}
 use Rattle.report.proofs.tower.Goals as goal
 
-module _ (ns : List (List ℕ)) (i : ℕ) (x : List ℕ) (n a b : ℕ) (e : length ns ≡ n) (h : i < n) (f : (k : ℕ) → k < i → k < 65536 → get_or ns k [] ≡ tower_node a b k)
-    (w : i < 65536 → x ≡ tower_node a b i) where
-  one : (k : ℕ) → Dec (k < i) → k < i + 1 → k < 65536 → get_or (slice_set ns i x) k [] ≡ tower_node a b k
-  one k (yes q) p m = get_or-set_other ns i k x [] (omega arith) ∙ f k q m
-  one k (no q) p m =
+module _ (ns : List (List ℕ)) (i : ℕ) (x : List ℕ) (n a b : ℕ) (e : length ns ≡ n) (h : i < n) (f : (k : ℕ) → k < i → get_or ns k [] ≡ tower_node a b k)
+    (w : x ≡ tower_node a b i) where
+  one : (k : ℕ) → Dec (k < i) → k < i + 1 → get_or (slice_set ns i x) k [] ≡ tower_node a b k
+  one k (yes q) p = get_or-set_other ns i k x [] (omega arith) ∙ f k q
+  one k (no q) p =
       let at : k ≡ i = omega (arith, q) in
-      get_or-set_at ns i k x [] at (omega arith) ∙ w (omega arith) ∙ ap (tower_node a b) (sym at)
+      get_or-set_at ns i k x [] at (omega arith) ∙ w ∙ ap (tower_node a b) (sym at)
 
-  more : (length (slice_set ns i x) ≡ n) × ((k : ℕ) → k < i + 1 → k < 65536 → get_or (slice_set ns i x) k [] ≡ tower_node a b k)
+  more : (length (slice_set ns i x) ≡ n) × ((k : ℕ) → k < i + 1 → get_or (slice_set ns i x) k [] ≡ tower_node a b k)
   more = (length-set ns i x ∙ e, λ k. one k (dec_lt k i))
 
 pub loop-i-preserved : goal.loop-i-preserved

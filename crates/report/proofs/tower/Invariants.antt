@@ -4,4 +4,4 @@ use Rattle.report.specs.Shared.{tower_node}
 use Rattle.report.proofs.tower.Given as goal
 
 abbrev pub invariant-loop-i : goal.invariant-loop-i
-invariant-loop-i g l = (length l.node-items ≡ g.row.N) × ((k : ℕ) → k < l.i → k < 65536 → get_or l.node-items k [] ≡ tower_node l.second l.later k)
+invariant-loop-i g l = (length l.node-items ≡ g.row.N) × ((k : ℕ) → k < l.i → get_or l.node-items k [] ≡ tower_node l.second l.later k)
