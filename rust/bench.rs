@@ -1,8 +1,8 @@
 //! Measures the library against the plain evaluator and a bit-parallel one,
-//! in one run, as one table of ratios.
+//! in one run, as one table of ratios. Before a row is timed, the three have
+//! to answer each of its inputs alike, and to leave alike what is lent.
 //!
-//!     rustc -O --edition 2021 bench.rs -L target/staticlib -l static=exports
-//!     rustc -O --edition 2021 reference.rs
+//!     ./build bench reference
 //!     ./bench [PROGRAM REFERENCE]
 //!
 //! With the two programs given, both are timed on one long input.
@@ -11,13 +11,16 @@ mod generate;
 mod library;
 mod oracle;
 mod parallel;
+mod types;
 
-use generate::{Numbering, Rng};
+use generate::{chain, translated, Rng, Trace};
+use std::fmt::Debug;
 use std::fs::File;
 use std::hint::black_box;
 use std::path::Path;
 use std::process::{Command, Stdio};
 use std::time::Instant;
+use types::Letter;
 
 const SEED: u64 = 30;
 /// Timed rounds a row; a row's time is their median. Many short rounds keep
@@ -33,14 +36,17 @@ const PROGRAM_ROUNDS: usize = 11;
 
 // ------------------------------------------------------------- measuring
 
-/// What does an operation: an input in, an answer out.
-type Contender<'a, T> = &'a mut dyn FnMut(&T) -> u64;
+/// What does an operation: an input and lent lists in, an answer out. None
+/// stands for a refusal, which no input of the benchmark meets.
+type Contender<I, L, T> = fn(&I, &mut L) -> Option<T>;
 
-/// Goes through all inputs and adds up the answers.
-fn pass<T>(inputs: &[T], contender: &mut dyn FnMut(&T) -> u64) -> u64 {
-    inputs.iter().fold(0u64, |sum, input| {
-        sum.wrapping_add(black_box(contender(black_box(input))))
-    })
+/// Ours, plain, parallel.
+type Contenders<I, L, T> = [Contender<I, L, T>; 3];
+
+fn pass<I, L, T>(inputs: &[I], lists: &mut L, contender: Contender<I, L, T>) {
+    for input in inputs {
+        black_box(contender(black_box(input), lists));
+    }
 }
 
 fn median(mut times: Vec<f64>) -> f64 {
@@ -49,12 +55,12 @@ fn median(mut times: Vec<f64>) -> f64 {
 }
 
 /// Passes that take a contender at least one round's time.
-fn passes<T>(inputs: &[T], contender: &mut dyn FnMut(&T) -> u64) -> usize {
+fn passes<I, L, T>(inputs: &[I], lists: &mut L, contender: Contender<I, L, T>) -> usize {
     let mut count = 1;
     loop {
         let start = Instant::now();
         for _ in 0..count {
-            pass(inputs, contender);
+            pass(inputs, lists, contender);
         }
         let seconds = start.elapsed().as_secs_f64();
         if seconds >= ROUND_SECONDS {
@@ -64,25 +70,39 @@ fn passes<T>(inputs: &[T], contender: &mut dyn FnMut(&T) -> u64) -> usize {
     }
 }
 
+/// All contenders answer every input, alike.
+fn compare<I, L, T>(name: &str, inputs: &[I], lists: &L, contenders: Contenders<I, L, T>)
+where
+    L: Clone + PartialEq,
+    T: PartialEq + Debug,
+{
+    for (place, input) in inputs.iter().enumerate() {
+        let [ours, plain, parallel] = contenders.map(|contender| {
+            let mut lists = lists.clone();
+            (contender(input, &mut lists), lists)
+        });
+        let alike = ours == plain && ours == parallel;
+        assert!(
+            alike && ours.0.is_some(),
+            "{name}, input {place}: answered by {:?}, or the lent lists differ",
+            [ours.0, plain.0, parallel.0]
+        );
+    }
+}
+
 /// Median seconds of a pass of each contender, the contenders in turn.
-fn seconds<T>(name: &str, inputs: &[T], mut contenders: [Contender<T>; 3]) -> [f64; 3] {
-    let sums = contenders
-        .each_mut()
-        .map(|contender| pass(inputs, *contender));
-    assert!(
-        sums.iter().all(|&sum| sum == sums[0]),
-        "{}: the contenders answer differently",
-        name
-    );
-    let counts = contenders
-        .each_mut()
-        .map(|contender| passes(inputs, *contender));
+fn seconds<I, L: Clone, T>(inputs: &[I], lists: &L, contenders: Contenders<I, L, T>) -> [f64; 3] {
+    let mut lists = [(); 3].map(|_| lists.clone());
+    let mut counts = [0; 3];
     let mut times = [(); 3].map(|_| Vec::new());
+    for (place, contender) in contenders.into_iter().enumerate() {
+        counts[place] = passes(inputs, &mut lists[place], contender);
+    }
     for _ in 0..ROUNDS {
-        for (place, contender) in contenders.iter_mut().enumerate() {
+        for (place, contender) in contenders.into_iter().enumerate() {
             let start = Instant::now();
             for _ in 0..counts[place] {
-                pass(inputs, *contender);
+                pass(inputs, &mut lists[place], contender);
             }
             times[place].push(start.elapsed().as_secs_f64() / counts[place] as f64);
         }
@@ -90,140 +110,84 @@ fn seconds<T>(name: &str, inputs: &[T], mut contenders: [Contender<T>; 3]) -> [f
     times.map(median)
 }
 
-fn print_header() {
-    println!(
-        "{:<52} {:>5} {:>10} {:>10} {:>10} {:>10} {:>13}",
-        "", "unit", "ours", "plain", "parallel", "ours/plain", "ours/parallel"
-    );
+/// A row in nanoseconds a call, or where the inputs have bytes in megabytes a
+/// second.
+fn row<I, L, T>(
+    name: &str,
+    inputs: &[I],
+    bytes: Option<usize>,
+    lists: L,
+    contenders: Contenders<I, L, T>,
+) where
+    L: Clone + PartialEq,
+    T: PartialEq + Debug,
+{
+    compare(name, inputs, &lists, contenders);
+    let times = seconds(inputs, &lists, contenders);
+    let (unit, figures) = match bytes {
+        Some(bytes) => ("MB/s", times.map(|time| bytes as f64 / time / 1e6)),
+        None => ("ns", times.map(|time| time * 1e9 / inputs.len() as f64)),
+    };
+    print_row(name, unit, figures.map(Some), times.map(Some));
+}
+
+fn print_columns(columns: [&str; 7]) {
+    let [name, unit, ours, plain, parallel, first, second] = columns;
+    println!("{name:<52} {unit:>5} {ours:>10} {plain:>10} {parallel:>10} {first:>10} {second:>13}");
 }
 
 /// Prints a row: three figures, then ratios of the times.
 fn print_row(name: &str, unit: &str, figures: [Option<f64>; 3], times: [Option<f64>; 3]) {
-    let figure =
-        |value: Option<f64>| value.map_or("-".to_string(), |value| format!("{:.1}", value));
-    let ratio = |other: Option<f64>| match (times[0], other) {
-        (Some(ours), Some(other)) => format!("{:.2}", ours / other),
-        _ => "-".to_string(),
+    let shown = |value: Option<f64>, digits| {
+        value.map_or("-".to_string(), |value| format!("{value:.digits$}"))
     };
-    println!(
-        "{:<52} {:>5} {:>10} {:>10} {:>10} {:>10} {:>13}",
-        name,
-        unit,
-        figure(figures[0]),
-        figure(figures[1]),
-        figure(figures[2]),
-        ratio(times[1]),
-        ratio(times[2])
-    );
-}
-
-/// A row in nanoseconds a call.
-fn row<T>(name: &str, inputs: &[T], contenders: [Contender<T>; 3]) {
-    let times = seconds(name, inputs, contenders);
-    let calls = inputs.len() as f64;
-    print_row(
-        name,
-        "ns",
-        times.map(|time| Some(time * 1e9 / calls)),
-        times.map(Some),
-    );
-}
-
-/// A row in megabytes a second.
-fn row_of_lines(name: &str, lines: &[Vec<u8>], contenders: [Contender<Vec<u8>>; 3]) {
-    let times = seconds(name, lines, contenders);
-    let bytes = lines.iter().map(Vec::len).sum::<usize>() as f64;
-    print_row(
-        name,
-        "MB/s",
-        times.map(|time| Some(bytes / time / 1e6)),
-        times.map(Some),
-    );
+    let [ours, plain, parallel] = figures.map(|figure| shown(figure, 1));
+    let [_, first, second] = times.map(|other| {
+        let ratio = times[0].zip(other).map(|(ours, other)| ours / other);
+        shown(ratio, 2)
+    });
+    print_columns([name, unit, &ours, &plain, &parallel, &first, &second]);
 }
 
 // ---------------------------------------------------------------- inputs
 
 /// A table with the trace it is judged on.
-struct Judged {
-    table: Vec<u16>,
-    lead: Vec<u32>,
-    cycle: Vec<u32>,
+type Judged = (Vec<u16>, Trace);
+
+/// How long lead-in and cycle are.
+type Lengths = (usize, usize);
+
+const TYPICAL_FINITE: Lengths = (20, 0);
+const TYPICAL_LASSO: Lengths = (8, 12);
+const LARGEST_FINITE: Lengths = (64, 0);
+const LARGEST_LASSO: Lengths = (24, 40);
+
+/// A trace of three signals.
+fn trace(rng: &mut Rng, (lead, cycle): Lengths) -> Trace {
+    let mut letters =
+        |count: usize| -> Vec<Letter> { (0..count).map(|_| rng.below(8) as Letter).collect() };
+    (letters(lead), letters(cycle))
 }
 
-/// How long a trace is, and how much of it is the cycle.
-#[derive(Clone, Copy)]
-struct Length {
-    lead: usize,
-    cycle: usize,
-}
-
-const TYPICAL_FINITE: Length = Length { lead: 20, cycle: 0 };
-const TYPICAL_LASSO: Length = Length { lead: 8, cycle: 12 };
-const LARGEST_FINITE: Length = Length { lead: 64, cycle: 0 };
-const LARGEST_LASSO: Length = Length {
-    lead: 24,
-    cycle: 40,
-};
-
-/// Letters of three signals.
-fn letters(rng: &mut Rng, count: usize) -> Vec<u32> {
-    (0..count).map(|_| rng.below(8) as u32).collect()
-}
-
-fn judged(rng: &mut Rng, tables: &[Vec<u16>], length: Length) -> Vec<Judged> {
-    tables
-        .iter()
-        .map(|table| Judged {
-            table: table.clone(),
-            lead: letters(rng, length.lead),
-            cycle: letters(rng, length.cycle),
-        })
-        .collect()
-}
-
-/// A PSL table of three signals as a line gives it, at least half of its
-/// nodes formulas.
-fn psl_table(rng: &mut Rng, nodes: usize) -> Vec<u16> {
-    loop {
-        let mut table = generate::psl_table_numbered(rng, nodes, Numbering::Closing);
-        for triple in table.chunks_exact_mut(3) {
-            if triple[0] == oracle::PSL_VAR {
-                triple[1] %= 3;
-            }
-        }
-        let formulas = table
-            .chunks_exact(3)
-            .filter(|triple| triple[0] >= oracle::PSL_WEAK);
-        if 2 * formulas.count() >= nodes {
-            return table;
-        }
-    }
-}
-
-/// An LTL table of three signals.
-fn ltl_table(rng: &mut Rng, nodes: usize) -> Vec<u16> {
-    let mut table = generate::ltl_table(rng, nodes);
+/// The same table on three signals; var is kind 1 of both tables.
+fn of_three_signals(mut table: Vec<u16>) -> Vec<u16> {
     for triple in table.chunks_exact_mut(3) {
-        if triple[0] == oracle::LTL_VAR {
+        if triple[0] == oracle::PSL_VAR {
             triple[1] %= 3;
         }
     }
     table
 }
 
-fn translated(table: &[u16]) -> Vec<u16> {
-    let mut out = vec![0; 3 * oracle::translated_size(table)];
-    oracle::translate(table, &mut out).expect("an accepted table");
-    out
-}
-
-/// 1,022 nexts over (weak true), whose translation is the largest.
-fn nexts() -> Vec<u16> {
-    let mut table = vec![oracle::PSL_TRUE, 0, 0, oracle::PSL_WEAK, 0, 0];
-    for node in 2..oracle::MAX_PSL_NODES {
-        table.extend_from_slice(&[oracle::PSL_NEXT, node as u16 - 1, 0]);
+/// A PSL table as a line gives it, at least half of its nodes formulas.
+fn psl_table(rng: &mut Rng, nodes: usize) -> Vec<u16> {
+    loop {
+        let table = of_three_signals(generate::psl_table(rng, nodes));
+        let kinds = table.iter().step_by(3);
+        if 2 * kinds.filter(|&&kind| kind >= oracle::PSL_WEAK).count() >= nodes {
+            return table;
+        }
     }
-    table
 }
 
 struct Tables {
@@ -238,137 +202,132 @@ struct Tables {
 impl Tables {
     fn new(rng: &mut Rng) -> Tables {
         let psl_typical: Vec<_> = (0..INPUTS).map(|_| psl_table(rng, 30)).collect();
-        let nexts = vec![nexts()];
+        let nexts = vec![chain(oracle::MAX_PSL_NODES, oracle::PSL_NEXT)];
         let all = |tables: &[Vec<u16>]| tables.iter().map(|table| translated(table)).collect();
         Tables {
             ltl_typical: all(&psl_typical),
             ltl_nexts: all(&nexts),
             psl_largest: (0..8).map(|_| psl_table(rng, 1024)).collect(),
-            ltl_largest: (0..4).map(|_| ltl_table(rng, 4096)).collect(),
+            ltl_largest: (0..4)
+                .map(|_| of_three_signals(generate::ltl_table(rng, 4096)))
+                .collect(),
             psl_typical,
             nexts,
         }
     }
 }
 
+/// A typical trace line, finite and lasso in turn.
+fn trace_line(rng: &mut Rng, place: usize) -> Vec<u8> {
+    let (lead, cycle) = trace(rng, [TYPICAL_FINITE, TYPICAL_LASSO][place % 2]);
+    generate::spell_trace(&lead, &cycle)
+}
+
 // ------------------------------------------------------------------ rows
 
-/// A verdict or a refusal as the library codes it.
-fn coded(answer: Result<usize, u8>) -> u64 {
-    answer.map_or_else(u64::from, |value| 256 + value as u64)
-}
+const LTL_VERDICT: Contenders<Judged, (), bool> = [
+    |(table, (lead, cycle)), _| library::ltl_verdict(table, lead, cycle).ok(),
+    |(table, (lead, cycle)), _| oracle::plain_ltl_verdict(table, lead, cycle),
+    |(table, (lead, cycle)), _| parallel::ltl_verdict(table, lead, cycle),
+];
 
-fn ltl_rows(rng: &mut Rng, name: &str, tables: &[Vec<u16>], length: Length) {
-    let inputs = judged(rng, tables, length);
-    row(
-        &format!("LTL verdict, {}", name),
-        &inputs,
-        [
-            &mut |c| library::ltl_verdict(&c.table, &c.lead, &c.cycle),
-            &mut |c| coded(oracle::plain_ltl_verdict(&c.table, &c.lead, &c.cycle).map(usize::from)),
-            &mut |c| coded(parallel::ltl_verdict(&c.table, &c.lead, &c.cycle).map(usize::from)),
-        ],
-    );
-}
-
-fn psl_rows(rng: &mut Rng, name: &str, tables: &[Vec<u16>], length: Length) {
-    let inputs = judged(rng, tables, length);
-    row(
-        &format!("PSL verdict, {}", name),
-        &inputs,
-        [
-            &mut |c| library::psl_verdict(&c.table, &c.lead, &c.cycle),
-            &mut |c| coded(oracle::plain_psl_verdict(&c.table, &c.lead, &c.cycle).map(usize::from)),
-            &mut |c| coded(parallel::psl_verdict(&c.table, &c.lead, &c.cycle).map(usize::from)),
-        ],
-    );
-}
+const PSL_VERDICT: Contenders<Judged, (), bool> = [
+    |(table, (lead, cycle)), _| library::psl_verdict(table, lead, cycle).ok(),
+    |(table, (lead, cycle)), _| oracle::plain_psl_verdict(table, lead, cycle),
+    |(table, (lead, cycle)), _| parallel::psl_verdict(table, lead, cycle),
+];
 
 fn verdict_rows(rng: &mut Rng, tables: &Tables) {
-    let nexts = &tables.ltl_nexts;
-    ltl_rows(rng, "4,094 nodes (nexts), finite", nexts, LARGEST_FINITE);
-    ltl_rows(rng, "4,094 nodes (nexts), lasso", nexts, LARGEST_LASSO);
-    let largest = &tables.ltl_largest;
-    ltl_rows(rng, "4,096 nodes (mixed), finite", largest, LARGEST_FINITE);
-    ltl_rows(rng, "4,096 nodes (mixed), lasso", largest, LARGEST_LASSO);
-    let typical = &tables.ltl_typical;
-    ltl_rows(rng, "typical, finite", typical, TYPICAL_FINITE);
-    ltl_rows(rng, "typical, lasso", typical, TYPICAL_LASSO);
-    let typical = &tables.psl_typical;
-    psl_rows(rng, "typical, finite", typical, TYPICAL_FINITE);
-    psl_rows(rng, "typical, lasso", typical, TYPICAL_LASSO);
-    let largest = &tables.psl_largest;
-    psl_rows(rng, "1,024 nodes, finite", largest, LARGEST_FINITE);
-    psl_rows(rng, "1,024 nodes, lasso", largest, LARGEST_LASSO);
+    let (ltl, psl) = (LTL_VERDICT, PSL_VERDICT);
+    let typical = [("finite", TYPICAL_FINITE), ("lasso", TYPICAL_LASSO)];
+    let largest = [("finite", LARGEST_FINITE), ("lasso", LARGEST_LASSO)];
+    for (name, tables, traces, contenders) in [
+        (
+            "LTL verdict, 4,094 nodes (nexts)",
+            &tables.ltl_nexts,
+            largest,
+            ltl,
+        ),
+        (
+            "LTL verdict, 4,096 nodes (mixed)",
+            &tables.ltl_largest,
+            largest,
+            ltl,
+        ),
+        ("LTL verdict, typical", &tables.ltl_typical, typical, ltl),
+        ("PSL verdict, typical", &tables.psl_typical, typical, psl),
+        (
+            "PSL verdict, 1,024 nodes",
+            &tables.psl_largest,
+            largest,
+            psl,
+        ),
+    ] {
+        for (sort, lengths) in traces {
+            let judged = |table: &Vec<u16>| (table.clone(), trace(rng, lengths));
+            let inputs: Vec<Judged> = tables.iter().map(judged).collect();
+            row(&format!("{name}, {sort}"), &inputs, None, (), contenders);
+        }
+    }
 }
 
 fn check_rows(tables: &Tables) {
-    for (name, tables) in [
-        ("PSL check, typical", &tables.psl_typical),
-        ("PSL check, 1,024 nodes", &tables.psl_largest),
+    let psl: Contenders<Vec<u16>, (), ()> = [
+        |table, _| library::check_psl(table).ok(),
+        |table, _| oracle::check_psl(table).ok(),
+        |table, _| parallel::check_psl(table),
+    ];
+    let ltl: Contenders<Vec<u16>, (), ()> = [
+        |table, _| library::check_ltl(table).ok(),
+        |table, _| oracle::check_ltl(table).ok(),
+        |table, _| parallel::check_ltl(table),
+    ];
+    for (name, inputs, contenders) in [
+        ("PSL check, typical", &tables.psl_typical, psl),
+        ("PSL check, 1,024 nodes", &tables.psl_largest, psl),
+        ("LTL check, typical", &tables.ltl_typical, ltl),
+        ("LTL check, 4,094 nodes (nexts)", &tables.ltl_nexts, ltl),
+        ("LTL check, 4,096 nodes (mixed)", &tables.ltl_largest, ltl),
     ] {
-        row(
-            name,
-            tables,
-            [
-                &mut |table| library::check_psl(table),
-                &mut |table| coded(oracle::check_psl(table).map(|_| 0)),
-                &mut |table| coded(parallel::check_psl(table).map(|_| 0)),
-            ],
-        );
-    }
-    for (name, tables) in [
-        ("LTL check, typical", &tables.ltl_typical),
-        ("LTL check, 4,094 nodes (nexts)", &tables.ltl_nexts),
-        ("LTL check, 4,096 nodes (mixed)", &tables.ltl_largest),
-    ] {
-        row(
-            name,
-            tables,
-            [
-                &mut |table| library::check_ltl(table),
-                &mut |table| coded(oracle::check_ltl(table).map(|_| 0)),
-                &mut |table| coded(parallel::check_ltl(table).map(|_| 0)),
-            ],
-        );
+        row(name, inputs, None, (), contenders);
     }
 }
 
 fn translation_rows(tables: &Tables) {
-    let mut out = [(); 3].map(|_| vec![0u16; 3 * oracle::MAX_LTL_NODES]);
-    let [ours, plain, other] = &mut out;
-    for (name, tables) in [
+    for (name, inputs) in [
         ("translation, typical", &tables.psl_typical),
         ("translation, to 4,094 nodes (nexts)", &tables.nexts),
         ("translation, 1,024 nodes", &tables.psl_largest),
     ] {
         row(
             name,
-            tables,
+            inputs,
+            None,
+            vec![0; 3 * oracle::MAX_LTL_NODES],
             [
-                &mut |table| library::translate(table, ours),
-                &mut |table| coded(oracle::translate(table, plain)),
-                &mut |table| coded(parallel::translate(table, other)),
+                |table, out| library::translate(table, out).ok(),
+                |table, out| oracle::translate(table, out).ok(),
+                |table, out| parallel::translate(table, out),
             ],
         );
     }
 }
 
 fn formula_line_rows(tables: &Tables) {
-    let mut out = [(); 3].map(|_| vec![0u16; 3 * oracle::MAX_PSL_NODES]);
-    let [ours, plain, other] = &mut out;
     for (name, tables) in [
         ("formula lines, typical", &tables.psl_typical),
         ("formula lines, 1,024 nodes", &tables.psl_largest),
     ] {
         let lines: Vec<_> = tables.iter().map(|table| generate::spell(table)).collect();
-        row_of_lines(
+        row(
             name,
             &lines,
+            Some(lines.concat().len()),
+            vec![0; 3 * oracle::MAX_PSL_NODES],
             [
-                &mut |line| library::read_formula(line, ours),
-                &mut |line| coded(oracle::read_formula_line(line, plain)),
-                &mut |line| coded(parallel::read_formula(line, other)),
+                |line, out| library::read_formula(line, out).ok(),
+                |line, out| oracle::read_formula(line, out).ok(),
+                |line, out| parallel::read_formula(line, out),
             ],
         );
     }
@@ -376,30 +335,24 @@ fn formula_line_rows(tables: &Tables) {
 
 fn trace_line_rows(rng: &mut Rng) {
     let typical: Vec<_> = (0..INPUTS).map(|place| trace_line(rng, place)).collect();
-    let wide: Vec<_> = (0..INPUTS)
-        .map(|_| {
-            let letters: Vec<u32> = (0..64).map(|_| rng.next() as u32).collect();
-            generate::spell_trace(&letters[..24], &letters[24..])
-        })
-        .collect();
-    let lengths = |(lead, cycle)| 65536 * lead + cycle;
+    let mut wide = |_| {
+        let letters: Vec<Letter> = (0..64).map(|_| rng.next() as u32 as Letter).collect();
+        generate::spell_trace(&letters[..24], &letters[24..])
+    };
+    let wide: Vec<_> = (0..INPUTS).map(&mut wide).collect();
     for (name, lines) in [
         ("trace lines, typical", typical),
         ("trace lines, 64 letters of 32 signals", wide),
     ] {
-        let mut out = [(); 3].map(|_| ([0u32; 64], [0u32; 64]));
-        let [ours, plain, other] = &mut out;
-        row_of_lines(
+        row(
             name,
             &lines,
+            Some(lines.concat().len()),
+            ([0; 64], [0; 64]),
             [
-                &mut |line| library::read_trace(line, &mut ours.0, &mut ours.1),
-                &mut |line| {
-                    coded(oracle::read_trace_line(line, &mut plain.0, &mut plain.1).map(lengths))
-                },
-                &mut |line| {
-                    coded(parallel::read_trace(line, &mut other.0, &mut other.1).map(lengths))
-                },
+                |line, (lead, cycle)| library::read_trace(line, lead, cycle).ok(),
+                |line, (lead, cycle)| oracle::read_trace(line, lead, cycle).ok(),
+                |line, (lead, cycle)| parallel::read_trace(line, lead, cycle),
             ],
         );
     }
@@ -408,30 +361,23 @@ fn trace_line_rows(rng: &mut Rng) {
 fn node_line_row(tables: &Tables) {
     let nodes: Vec<[u16; 4]> = tables.ltl_largest[0]
         .chunks_exact(3)
-        .enumerate()
-        .map(|(own, triple)| [own as u16, triple[0], triple[1], triple[2]])
+        .zip(0..)
+        .map(|(triple, own)| [own, triple[0], triple[1], triple[2]])
         .collect();
-    let mut out = [[0u8; 32]; 3];
-    let [ours, plain, other] = &mut out;
     row(
         "node line, of 4,096 nodes (mixed)",
         &nodes,
+        None,
+        [0; 32],
         [
-            &mut |n| library::write_node(n[0], n[1], n[2], n[3], ours),
-            &mut |n| coded(oracle::write_node_line(n[0], n[1], n[2], n[3], plain)),
-            &mut |n| coded(parallel::write_node(n[0], n[1], n[2], n[3], other)),
+            |n, out| library::write_node(n[0], n[1], n[2], n[3], out).ok(),
+            |n, out| oracle::write_node(n[0], n[1], n[2], n[3], out).ok(),
+            |n, out| parallel::write_node(n[0], n[1], n[2], n[3], out),
         ],
     );
 }
 
 // -------------------------------------------------------------- programs
-
-/// A typical trace line, finite and lasso in turn.
-fn trace_line(rng: &mut Rng, place: usize) -> Vec<u8> {
-    let length = [TYPICAL_FINITE, TYPICAL_LASSO][place % 2];
-    let (lead, cycle) = (letters(rng, length.lead), letters(rng, length.cycle));
-    generate::spell_trace(&lead, &cycle)
-}
 
 fn long_input(rng: &mut Rng, tables: &Tables) -> Vec<u8> {
     let mut input = generate::spell(&tables.psl_typical[0]);
@@ -470,12 +416,8 @@ fn program_row(ours: &str, reference: &str, input: &Path) -> std::io::Result<()>
     }
     let [ours, reference] = times.map(median);
     let figures = [Some(ours * 1e3), None, Some(reference * 1e3)];
-    print_row(
-        "whole program, 100,000 typical trace lines",
-        "ms",
-        figures,
-        figures,
-    );
+    let name = "whole program, 100,000 typical trace lines";
+    print_row(name, "ms", figures, figures);
     Ok(())
 }
 
@@ -505,7 +447,15 @@ fn main() {
     println!("ours: the library; plain: the separately written evaluator, a byte a truth; parallel: bit-parallel Rust.");
     println!("typical: 30 PSL nodes, 3 signals, 20 letters; verdicts on large tables: 64 letters.");
     println!("Ratios are of times: below 1, ours is the faster.");
-    print_header();
+    print_columns([
+        "",
+        "unit",
+        "ours",
+        "plain",
+        "parallel",
+        "ours/plain",
+        "ours/parallel",
+    ]);
     verdict_rows(rng, &tables);
     check_rows(&tables);
     translation_rows(&tables);

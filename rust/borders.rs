@@ -1,34 +1,36 @@
-//! Fixed cases for each operation: the sentences with known verdicts, small
-//! inputs in full, limits and one beyond, and every small damage to a line.
+//! Fixed inputs of each operation: the sentences with known verdicts, small
+//! inputs in full, limits and one beyond, and every change of a byte of some
+//! lines.
 
-use super::generate::{spell, spell_trace, Case};
-use super::oracle;
+use super::generate::{chain, spell, spell_trace, translated, Trace};
+use super::types::Letter;
+use super::{oracle, Line};
 
 /// The formulas of the sentences with known verdicts, and some that every
 /// kind takes part in.
 const FORMULAS: [&str; 22] = [
-    "(weak (var 0))",
-    "(strong (var 0))",
-    "(not (weak (var 0)))",
-    "(weak (bnot (var 0)))",
-    "(next (weak true))",
-    "(not (next (not (weak (var 0)))))",
-    "(until (strong true) (strong (var 0)))",
-    "(abort (strong (bnot true)) true)",
-    "(not (abort (next (strong (var 1))) (var 0)))",
-    "(abort (not (abort (strong true) (var 0))) (var 0))",
-    "(next (until (strong (var 0)) (strong (var 1))))",
-    "(until (weak (var 0)) (strong (var 1)))",
-    "(and (weak (var 0)) (next (strong (var 1))))",
-    "(until (next (weak (var 0))) (and (strong (var 1)) (next (strong (var 0)))))",
-    "(not (until (not (weak (var 0))) (not (next (weak (var 1))))))",
-    "(abort (until (weak (var 0)) (strong (var 1))) (band (var 0) (bnot (var 1))))",
-    "(until (abort (next (strong (var 0))) (var 1)) (strong (bnot (var 0))))",
-    "(not (abort (not (until (strong (var 0)) (next (weak (var 1))))) (var 1)))",
-    "(abort (abort (next (next (strong (var 0)))) (var 1)) (bnot (var 0)))",
-    "(next (next (not (next (strong (var 1))))))",
-    "(and (not (strong (var 31))) (abort (weak (band true (var 30))) (bnot true)))",
-    "(not (until (weak true) (not (abort (next (weak (var 0))) (band (var 0) (var 1))))))",
+    "(psl (weak (var 0)))",
+    "(psl (strong (var 0)))",
+    "(psl (not (weak (var 0))))",
+    "(psl (weak (bnot (var 0))))",
+    "(psl (next (weak true)))",
+    "(psl (not (next (not (weak (var 0))))))",
+    "(psl (until (strong true) (strong (var 0))))",
+    "(psl (abort (strong (bnot true)) true))",
+    "(psl (not (abort (next (strong (var 1))) (var 0))))",
+    "(psl (abort (not (abort (strong true) (var 0))) (var 0)))",
+    "(psl (next (until (strong (var 0)) (strong (var 1)))))",
+    "(psl (until (weak (var 0)) (strong (var 1))))",
+    "(psl (and (weak (var 0)) (next (strong (var 1)))))",
+    "(psl (until (next (weak (var 0))) (and (strong (var 1)) (next (strong (var 0))))))",
+    "(psl (not (until (not (weak (var 0))) (not (next (weak (var 1)))))))",
+    "(psl (abort (until (weak (var 0)) (strong (var 1))) (band (var 0) (bnot (var 1)))))",
+    "(psl (until (abort (next (strong (var 0))) (var 1)) (strong (bnot (var 0)))))",
+    "(psl (not (abort (not (until (strong (var 0)) (next (weak (var 1))))) (var 1))))",
+    "(psl (abort (abort (next (next (strong (var 0)))) (var 1)) (bnot (var 0))))",
+    "(psl (next (next (not (next (strong (var 1)))))))",
+    "(psl (and (not (strong (var 31))) (abort (weak (band true (var 30))) (bnot true))))",
+    "(psl (not (until (weak true) (not (abort (next (weak (var 0))) (band (var 0) (var 1)))))))",
 ];
 
 const TRACES: [&str; 7] = [
@@ -41,39 +43,12 @@ const TRACES: [&str; 7] = [
     "(lasso (1 20 300) (40 5))",
 ];
 
-fn psl_line(formula: &str) -> Vec<u8> {
-    format!("(psl {})", formula).into_bytes()
-}
+// ---------------------------------------------------------------- tables
 
-fn psl_table(formula: &str) -> Vec<u16> {
+fn table_of(line: &str) -> Vec<u16> {
     let mut table = vec![0; 3 * oracle::MAX_PSL_NODES];
-    let nodes = oracle::read_formula_line(&psl_line(formula), &mut table).expect(formula);
+    let nodes = oracle::read_formula(line.as_bytes(), &mut table).expect(line);
     table.truncate(3 * nodes);
-    table
-}
-
-fn translated(table: &[u16]) -> Vec<u16> {
-    let mut out = vec![0; 3 * oracle::translated_size(table)];
-    oracle::translate(table, &mut out).expect("an accepted table");
-    out
-}
-
-/// A table of `nodes` nodes: true, weak, and the rest of one kind over it.
-fn chain(nodes: usize, kind: u16) -> Vec<u16> {
-    let mut table = vec![oracle::PSL_TRUE, 0, 0, oracle::PSL_WEAK, 0, 0];
-    for node in 2..nodes {
-        table.extend_from_slice(&[kind, node as u16 - 1, 0]);
-    }
-    table
-}
-
-/// An LTL table of `nodes` nodes that all look back one node.
-fn ltl_chain(nodes: usize) -> Vec<u16> {
-    let mut table = vec![oracle::LTL_VAR, 0, 0];
-    for node in 1..nodes {
-        let kind = [oracle::LTL_NOT, oracle::LTL_NEXT][node % 2];
-        table.extend_from_slice(&[kind, node as u16 - 1, 0]);
-    }
     table
 }
 
@@ -82,184 +57,94 @@ fn small_tables(kinds: u16) -> Vec<Vec<u16>> {
     let mut nodes = Vec::new();
     for kind in 0..=kinds {
         for left in [0, 1, 2, 31, 32, 65535] {
-            for right in [0, 1, 65535] {
-                nodes.push([kind, left, right]);
-            }
+            nodes.extend([0, 1, 65535].map(|right| vec![kind, left, right]));
         }
     }
-    let mut tables = Vec::new();
+    let mut tables = nodes.clone();
     for first in &nodes {
-        tables.push(first.to_vec());
-        for second in &nodes {
-            tables.push([*first, *second].concat());
-        }
+        tables.extend(nodes.iter().map(|second| [&first[..], second].concat()));
     }
     tables
 }
 
-/// Each table with its last one, two, ... numbers left out, down to nothing.
-fn cut_tables(table: &[u16]) -> Vec<Vec<u16>> {
-    (0..=table.len()).map(|end| table[..end].to_vec()).collect()
-}
-
-fn psl_tables() -> Vec<Vec<u16>> {
+pub fn psl_tables() -> Vec<Vec<u16>> {
     let mut tables = small_tables(11);
-    tables.extend(cut_tables(&psl_table(FORMULAS[13])));
-    tables.extend([1023, 1024, 1025, 1026].map(|nodes| chain(nodes, oracle::PSL_NEXT)));
-    tables.extend([1024, 1025].map(|nodes| chain(nodes, oracle::PSL_NOT)));
-    // One operand named twice.
-    tables.push(vec![0, 0, 0, 4, 0, 0, 7, 1, 1]);
-    // The last number left out, one added, and a fault in the last node.
-    let full = chain(1024, oracle::PSL_NEXT);
-    tables.push(full[..full.len() - 1].to_vec());
-    tables.push([&full[..], &[0]].concat());
-    for (place, value) in [(3, 11), (2, 1023), (2, 0), (1, 1)] {
-        let mut table = full.clone();
-        let at = table.len() - place;
-        table[at] = value;
-        tables.push(table);
-    }
+    tables.extend([1023, 1024, 1025].map(|nodes| chain(nodes, oracle::PSL_NEXT)));
     tables
 }
 
-fn ltl_tables() -> Vec<Vec<u16>> {
+pub fn ltl_tables() -> Vec<Vec<u16>> {
     let mut tables = small_tables(7);
-    tables.extend(cut_tables(&translated(&psl_table(FORMULAS[13]))));
-    tables.extend([4095, 4096, 4097, 4098].map(ltl_chain));
-    let full = ltl_chain(4096);
-    tables.push(full[..full.len() - 1].to_vec());
-    tables.push([&full[..], &[0]].concat());
-    for (place, value) in [(3, 7), (2, 4095), (2, 4096), (1, 1)] {
-        let mut table = full.clone();
-        let at = table.len() - place;
-        table[at] = value;
-        tables.push(table);
-    }
+    tables.extend([4095, 4096, 4097].map(|nodes| vec![0; 3 * nodes]));
     tables
 }
+
+/// The largest translation, with space one short, enough, and one more.
+pub fn translations() -> Vec<(Vec<u16>, usize)> {
+    let largest = || chain(1024, oracle::PSL_NEXT);
+    let enough = 3 * oracle::translated_size(&largest());
+    (enough - 1..=enough + 1)
+        .map(|space| (largest(), space))
+        .collect()
+}
+
+// ---------------------------------------------------------------- traces
 
 /// Every trace of at most three letters of two signals, and long ones of
 /// 62 to 66 letters with every length of lead-in.
-fn traces() -> Vec<(Vec<u32>, Vec<u32>)> {
-    let mut words: Vec<Vec<u32>> = vec![Vec::new()];
+fn traces() -> Vec<Trace> {
+    let mut words: Vec<Vec<Letter>> = vec![Vec::new()];
     let mut longest = words.clone();
     for _ in 0..3 {
-        longest = longest
-            .iter()
-            .flat_map(|word| (0..4).map(move |letter| [&word[..], &[letter]].concat()))
-            .collect();
+        let longer =
+            |word: &Vec<Letter>| [0, 1, 2, 3].map(|letter| [&word[..], &[letter]].concat());
+        longest = longest.iter().flat_map(longer).collect();
         words.extend(longest.iter().cloned());
     }
-    for length in 62..=66u32 {
+    for length in 62..=66 {
         words.push((0..length).map(|at| at * at / 3).collect());
-        words.push((0..length).map(|at| (at + 2 < length) as u32).collect());
+        words.push((0..length).map(|at| (at + 2 < length) as Letter).collect());
     }
-    let mut traces = Vec::new();
-    for word in &words {
-        for lead in 0..=word.len() {
-            traces.push((word[..lead].to_vec(), word[lead..].to_vec()));
-        }
-    }
-    traces
+    let splits = |word: Vec<Letter>| -> Vec<Trace> {
+        let split = |lead| (word[..lead].to_vec(), word[lead..].to_vec());
+        (0..=word.len()).map(split).collect()
+    };
+    words.into_iter().flat_map(splits).collect()
 }
 
-fn psl_verdicts() -> Vec<Case> {
-    let mut cases = Vec::new();
+/// Each table on each trace.
+fn judged(tables: Vec<Vec<u16>>) -> Vec<(Vec<u16>, Trace)> {
     let traces = traces();
-    let tables = FORMULAS.map(psl_table);
-    for table in &tables {
-        for (lead, cycle) in &traces {
-            cases.push(Case::PslVerdict {
-                table: table.clone(),
-                lead: lead.clone(),
-                cycle: cycle.clone(),
-            });
-        }
-    }
-    // Refusals of the table come before 9.
-    for table in [&[][..], &[0, 0, 0], &[4, 0, 0], &chain(1025, 8)] {
-        cases.push(Case::PslVerdict {
-            table: table.to_vec(),
-            lead: vec![0; 65],
-            cycle: Vec::new(),
-        });
-    }
-    cases
+    let on_all = |table: Vec<u16>| -> Vec<(Vec<u16>, Trace)> {
+        traces
+            .iter()
+            .map(|trace| (table.clone(), trace.clone()))
+            .collect()
+    };
+    tables.into_iter().flat_map(on_all).collect()
 }
 
-fn ltl_verdicts() -> Vec<Case> {
-    let mut cases = Vec::new();
-    let traces = traces();
-    let tables = FORMULAS.map(|formula| translated(&psl_table(formula)));
-    for table in &tables {
-        for (lead, cycle) in &traces {
-            cases.push(Case::LtlVerdict {
-                table: table.clone(),
-                lead: lead.clone(),
-                cycle: cycle.clone(),
-            });
-        }
-    }
-    // Refusals of the table come before 9 and 16.
-    for table in [&[][..], &[7, 0, 0], &[2, 0, 0], &ltl_chain(4097)] {
-        for length in [0, 65] {
-            cases.push(Case::LtlVerdict {
-                table: table.to_vec(),
-                lead: vec![0; length],
-                cycle: Vec::new(),
-            });
-        }
-    }
-    cases
+pub fn psl_verdicts() -> Vec<(Vec<u16>, Trace)> {
+    judged(FORMULAS.map(table_of).to_vec())
 }
 
-fn translations() -> Vec<Case> {
-    let mut cases = Vec::new();
-    for table in FORMULAS.map(psl_table) {
-        for space in 0..=3 * oracle::translated_size(&table) + 2 {
-            cases.push(Case::Translate {
-                table: table.clone(),
-                space,
-            });
-        }
-    }
-    for space in [0, 3 * 4094 - 1, 3 * 4094, 3 * 4094 + 1, 3 * 4096] {
-        cases.push(Case::Translate {
-            table: chain(1024, oracle::PSL_NEXT),
-            space,
-        });
-    }
-    cases
+pub fn ltl_verdicts() -> Vec<(Vec<u16>, Trace)> {
+    judged(FORMULAS.map(|line| translated(&table_of(line))).to_vec())
 }
 
-fn looks() -> Vec<(Vec<u32>, Vec<u32>, usize)> {
-    let mut looks = Vec::new();
-    for lead in 0..=4u32 {
-        for cycle in 0..=4u32 {
-            let first: Vec<u32> = (0..lead).map(|at| u32::MAX - at).collect();
-            let second: Vec<u32> = (0..cycle).map(|at| 10 + at).collect();
-            let huge = [u32::MAX as usize, 1 << 32, usize::MAX - 1, usize::MAX];
-            for moment in (0..30).chain(huge) {
-                looks.push((first.clone(), second.clone(), moment));
-            }
-        }
-    }
-    looks
-}
+// ----------------------------------------------------------------- lines
 
 /// A line with every beginning of it, every byte left out, doubled, and
 /// replaced by every other.
-fn damaged(line: &[u8]) -> Vec<Vec<u8>> {
+fn damaged(line: &str) -> Vec<Vec<u8>> {
+    let line = line.as_bytes();
     let mut lines = vec![line.to_vec()];
     for at in 0..line.len() {
-        lines.push(line[..at].to_vec());
-        lines.push([&line[..at], &line[at + 1..]].concat());
-        lines.push([&line[..=at], &line[at..]].concat());
-        for byte in 0..=255 {
-            let mut changed = line.to_vec();
-            changed[at] = byte;
-            lines.push(changed);
-        }
+        let (before, after) = (&line[..at], &line[at + 1..]);
+        lines.push(before.to_vec());
+        lines.push([before, after].concat());
+        lines.push([before, &[line[at]; 2], after].concat());
+        lines.extend((0..=255).map(|byte| [before, &[byte], after].concat()));
     }
     lines
 }
@@ -271,181 +156,94 @@ fn filled(line: &str, length: usize) -> Vec<u8> {
 }
 
 /// A line that opens `count` forms and closes all but `open` of them.
-fn nested(form: &str, count: usize, open: usize) -> Vec<u8> {
-    let close = ")".repeat(count - open);
-    format!("(psl {}(weak true){})", form.repeat(count), close).into_bytes()
+fn nested(count: usize, open: usize) -> Vec<u8> {
+    let (before, after) = ("(not ".repeat(count), ")".repeat(count - open));
+    format!("(psl {}(weak true){})", before, after).into_bytes()
 }
 
-fn formula_lines() -> Vec<Case> {
-    let mut lines = damaged(&psl_line(FORMULAS[20]));
+pub fn formula_lines() -> Vec<(Line, usize)> {
+    let mut lines = damaged(FORMULAS[20]);
     for formula in [FORMULAS[9], FORMULAS[13], FORMULAS[15]] {
-        lines.extend(damaged(&psl_line(formula)).into_iter().step_by(5));
+        lines.extend(damaged(formula).into_iter().step_by(5));
     }
-    for nodes in [1022, 1023, 1024, 1025] {
-        lines.push(spell(&chain(nodes, oracle::PSL_NEXT)));
-        lines.push(spell(&chain(nodes, oracle::PSL_NOT)));
-    }
+    lines.extend([1023, 1024, 1025].map(|nodes| spell(&chain(nodes, oracle::PSL_NEXT))));
     for length in [16383, 16384, 16385] {
         lines.push(filled("(psl (weak (var @)))", length));
         lines.push(format!("(psl {}", "(not ".repeat(length)).into_bytes()[..length].to_vec());
     }
-    for open in [0, 1] {
-        lines.push(nested("(not ", 1023, open));
-        lines.push(nested("(not ", 2727, open));
-    }
-    let mut cases: Vec<Case> = lines
-        .into_iter()
-        .map(|line| Case::FormulaLine { line, space: 3072 })
-        .collect();
-    for formula in FORMULAS {
-        for space in 0..=psl_table(formula).len() + 2 {
-            let line = psl_line(formula);
-            cases.push(Case::FormulaLine { line, space });
-        }
-    }
-    cases
+    lines.extend([
+        nested(1023, 0),
+        nested(1023, 1),
+        nested(2727, 0),
+        nested(2727, 1),
+    ]);
+    let space = 3 * oracle::MAX_PSL_NODES;
+    lines.into_iter().map(|line| (Line(line), space)).collect()
 }
 
-fn trace_lines() -> Vec<Case> {
-    let mut lines = Vec::new();
-    for line in TRACES {
-        lines.extend(damaged(line.as_bytes()));
-    }
-    for (lead, cycle) in traces() {
-        lines.push(spell_trace(&lead, &cycle));
-    }
+pub fn trace_lines() -> Vec<(Line, [usize; 2])> {
+    let mut lines: Vec<Vec<u8>> = TRACES.iter().flat_map(|line| damaged(line)).collect();
+    lines.extend(
+        traces()
+            .iter()
+            .map(|(lead, cycle)| spell_trace(lead, cycle)),
+    );
     for length in [16383, 16384, 16385] {
         lines.push(filled("(finite @)", length));
         lines.push(filled("(lasso (0) (@))", length));
     }
-    let mut cases: Vec<Case> = lines
+    lines
         .into_iter()
-        .map(|line| Case::TraceLine {
-            line,
-            lead_space: 64,
-            cycle_space: 64,
-        })
-        .collect();
-    for line in TRACES {
-        for spaces in 0..64 {
-            cases.push(Case::TraceLine {
-                line: line.as_bytes().to_vec(),
-                lead_space: spaces / 8,
-                cycle_space: spaces % 8,
-            });
-        }
-    }
-    cases
+        .map(|line| (Line(line), [64, 64]))
+        .collect()
 }
 
-fn node_lines() -> Vec<Case> {
-    let mut cases = Vec::new();
-    for own in [0, 1, 2, 9, 10, 100, 999, 1000, 1001, 4095, 4096, 65535] {
+pub fn node_lines() -> Vec<([u16; 4], usize)> {
+    let mut nodes = Vec::new();
+    for own in [0, 1, 9, 10, 1000, 4095, 4096, 65535] {
         for kind in 0..=7 {
             for left in [0, 1, 9, 31, 32, 999, 4094, 4095] {
-                for right in [0, 1, 10, 4094, 4095, 65535] {
-                    for space in [0, 8, 9, 10, 13, 18, 21, 22, 23, 24] {
-                        cases.push(Case::NodeLine {
-                            own,
-                            kind,
-                            left,
-                            right,
-                            space,
-                        });
-                    }
-                }
+                nodes.extend([0, 1, 10, 4094, 4095].map(|right| [own, kind, left, right]));
             }
         }
     }
-    cases
+    let spaces = |node| [0, 8, 9, 10, 22, 23, 24].map(|space| (node, space));
+    nodes.into_iter().flat_map(spaces).collect()
 }
 
-/// The fixed cases of the operation with this place in `Case`.
-pub fn cases(operation: usize) -> Vec<Case> {
-    match operation {
-        0 => psl_tables()
-            .into_iter()
-            .map(|table| Case::CheckPsl { table })
-            .collect(),
-        1 => ltl_tables()
-            .into_iter()
-            .map(|table| Case::CheckLtl { table })
-            .collect(),
-        2 => psl_verdicts(),
-        3 => ltl_verdicts(),
-        4 => translations(),
-        5 => looks()
-            .into_iter()
-            .map(|(lead, cycle, moment)| Case::LetterAt {
-                lead,
-                cycle,
-                moment,
-            })
-            .collect(),
-        6 => looks()
-            .into_iter()
-            .flat_map(|look| (0..=5).map(move |space| (look.clone(), space)))
-            .map(|((lead, cycle, moment), space)| Case::Rest {
-                lead,
-                cycle,
-                moment,
-                space,
-            })
-            .collect(),
-        7 => formula_lines(),
-        8 => trace_lines(),
-        _ => node_lines(),
-    }
-}
+// ---------------------------------------------------------------- inputs
+
+/// Whole inputs that random ones do not reach.
+const INPUTS: [&str; 12] = [
+    "",
+    "\n",
+    "\n\n",
+    "\r\n",
+    "\0\n",
+    "(psl (weak true))",
+    "(psl (weak true))\r\n(finite 0)\r\n",
+    "\n(psl (weak true))\n(finite 0)\n",
+    "(psl (weak true))\n(psl (weak true))\n",
+    "(psl (weak true))\n\n(finite)\r\n(finite)\n",
+    "(psl (weak true))\n(finite 1\0)\n\0\n(finite 1)\n",
+    "(psl (next (strong (var 1))))\n(finite 1)\n(finite 0 2)\n(lasso () (2))\n(finite)",
+];
 
 /// Whole inputs: empty ones, line ends, line lengths, bytes of all sorts.
 pub fn inputs() -> Vec<Vec<u8>> {
-    let formula = "(psl (abort (next (strong (var 1))) (var 0)))";
-    let mut inputs: Vec<Vec<u8>> = [
-        "",
-        "\n",
-        "\n\n",
-        "\r\n",
-        "\0",
-        "\0\n",
-        "(psl",
-        "(psl (weak true))",
-        "(psl (weak true))\r\n(finite 0)\r\n",
-        "(psl true)\n(finite 0)\n",
-        "(psl (weak (var 32)))\n(finite 0)\n",
-        "\n(psl (weak true))\n(finite 0)\n",
-        "(psl (weak true))\n(psl (weak true))\n",
-    ]
-    .map(|text| text.as_bytes().to_vec())
-    .to_vec();
-    for tail in [
-        "",
-        "\n",
-        "\n\n",
-        "\n\n\n",
-        "\n(finite 1)\n(finite 0 0)\n(lasso () (2))\n(finite)\n",
-        "\n(finite 1)\n(finite 0 0)\n(lasso () (2))\n(finite)",
-        "\n(finite)\r\n(finite)\n",
-        "\n\r\n(finite)\n",
-        "\n(finite 1\0)\n\0\n(finite 1)\n",
-        "\n(finite 4294967296)\n(finite 4294967295)\n\n(finite 1)\n",
-    ] {
-        inputs.push([formula, tail].concat().into_bytes());
-    }
-    for length in [16383, 16384, 16385, 16386, 65535, 65536, 65537, 1 << 20] {
+    let mut inputs = INPUTS.map(|text| text.as_bytes().to_vec()).to_vec();
+    for length in [16383, 16384, 16385, 65535, 65536, 65537, 1 << 20] {
         let long_formula = filled("(psl (weak (var @)))", length);
-        let long_trace = filled("(finite @)", length);
+        let long_trace = filled("(psl (weak true))\n(finite @)", length + 18);
         let end = b"\n(finite 2)\n(lasso (1) (0))\n";
-        inputs.push(long_formula.clone());
         inputs.push([&long_formula[..], end].concat());
-        inputs.push([formula.as_bytes(), b"\n", &long_trace].concat());
-        inputs.push([formula.as_bytes(), b"\n", &long_trace, end].concat());
-        inputs.push(vec![b'('; length]);
+        inputs.push([&long_trace[..], end].concat());
+        inputs.extend([long_formula, long_trace, vec![b'('; length]]);
     }
-    // The largest table, and the deepest line.
+    // The largest table, and the deepest lines.
     let largest = spell(&chain(1024, oracle::PSL_NEXT));
     inputs.push([&largest[..], b"\n(finite 0)\n(lasso () (0))\n(finite)\n"].concat());
-    inputs.push(nested("(not ", 2727, 0));
+    inputs.push(nested(2727, 0));
     inputs.push(format!("(psl {}", "(not ".repeat(3275)).into_bytes());
     inputs
 }

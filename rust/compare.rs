@@ -2,456 +2,228 @@
 //! on fixed and random inputs, what the translator promises by running both
 //! verdicts, and the built program on whole inputs.
 //!
-//!     rustc -O --edition 2021 compare.rs -L target/staticlib -l static=exports
+//!     ./build compare
 //!     ./compare [SEED] [PROGRAM]
-//!
-//! The bit-parallel contender of the benchmark is compared on the way.
 
 mod borders;
 mod generate;
 mod library;
 mod operations;
 mod oracle;
-mod parallel;
+mod types;
 
-use generate::{Case, Rng};
-use operations::{outcome, Operations, Outcome, LIBRARY, ORACLE, PARALLEL};
+use generate::Rng;
 use std::collections::BTreeMap;
-use std::fmt;
-use std::io::Write;
-use std::process::{Command, Stdio};
+use std::fmt::{self, Debug, Formatter};
 use std::time::Instant;
+use types::{Letter, Refusal};
 
 const DEFAULT_SEED: u64 = 20_011_102;
-/// Random cases an operation, next to the fixed ones.
-const CASES: usize = 120_000;
-/// Formulas judged by both verdicts.
-const PAIRS: usize = 120_000;
-/// Random whole inputs.
-const RUNS: usize = 2_400;
-/// Trace lines of the longest whole input.
-const LONG_RUN: usize = 100_000;
-/// Differing inputs shown for each line of the report.
+/// Differing inputs shown for each operation.
 const SHOWN: usize = 3;
+/// How often a refusal of an operation is to occur at least.
+const LEAST: usize = 300;
+/// Places on each side of a lent list that belong to nobody.
+const MARGIN: usize = 4;
 
-const NAMES: [&str; 10] = [
-    "psl check",
-    "ltl check",
-    "psl verdict",
-    "ltl verdict",
-    "translation",
-    "letter of a moment",
-    "rest of a list",
-    "formula line",
-    "trace line",
-    "node line",
-];
+// ----------------------------------------------------------------- lists
 
-// ---------------------------------------------------------------- counts
-
-/// What answers are counted by.
-#[derive(Clone, Copy, PartialEq, Eq, PartialOrd, Ord)]
-enum Answer {
-    Value(&'static str),
-    Refusal(u64),
-}
-
-impl fmt::Display for Answer {
-    fn fmt(&self, out: &mut fmt::Formatter) -> fmt::Result {
-        match self {
-            Answer::Value(name) => write!(out, "{}", name),
-            Answer::Refusal(number) => write!(out, "refusal {}", number),
-        }
-    }
-}
-
-/// What a coded answer of an operation is counted by.
-fn answer_of(operation: usize, code: u64) -> Answer {
-    let is_verdict = operation == 2 || operation == 3;
-    match code {
-        0..=255 => Answer::Refusal(code),
-        256 if is_verdict => Answer::Value("no"),
-        257 if is_verdict => Answer::Value("yes"),
-        _ => Answer::Value("accepted"),
-    }
-}
-
-/// What one line of the report counts.
-struct Count {
-    name: &'static str,
-    start: Instant,
-    answers: BTreeMap<Answer, usize>,
-    passed: usize,
-    failed: usize,
-}
-
-impl Count {
-    fn new(name: &'static str) -> Count {
-        Count {
-            name,
-            start: Instant::now(),
-            answers: BTreeMap::new(),
-            passed: 0,
-            failed: 0,
-        }
-    }
-
-    /// Counts an input by the answer due; `report` describes it if the
-    /// outcome differs.
-    fn note<F: FnOnce() -> String>(&mut self, due: Answer, same: bool, report: F) {
-        *self.answers.entry(due).or_insert(0) += 1;
-        if same {
-            self.passed += 1;
-            return;
-        }
-        self.failed += 1;
-        if self.failed <= SHOWN {
-            println!("DIFFERS {}: {}", self.name, report());
-        }
-    }
-
-    /// Prints the line of the report and adds to the totals.
-    fn finish(self, totals: &mut Totals) {
-        let answers: Vec<String> = self
-            .answers
-            .iter()
-            .map(|(answer, times)| format!("{}: {}", answer, times))
-            .collect();
-        println!(
-            "{}: {} inputs, {} differ, {:.1} s; {}",
-            self.name,
-            self.passed + self.failed,
-            self.failed,
-            self.start.elapsed().as_secs_f64(),
-            answers.join(", ")
-        );
-        totals.passed += self.passed;
-        totals.failed += self.failed;
-    }
-}
-
-struct Totals {
-    passed: usize,
-    failed: usize,
-}
-
-// --------------------------------------------------------------- reports
-
-/// The bytes of a line, the middle of a long one left out.
-fn shown_line(line: &[u8]) -> String {
-    let cut = |part: &[u8]| part.escape_ascii().to_string();
-    if line.len() <= 400 {
-        return format!("\"{}\" ({} bytes)", cut(line), line.len());
-    }
-    let (first, last) = (&line[..300], &line[line.len() - 80..]);
-    format!(
-        "\"{}\" .. \"{}\" ({} bytes)",
-        cut(first),
-        cut(last),
-        line.len()
-    )
-}
-
-/// The nodes of a table, the later ones of a long one left out.
-fn shown_table(table: &[u16]) -> String {
-    let nodes: Vec<String> = table
-        .chunks(3)
-        .take(60)
-        .enumerate()
-        .map(|(node, triple)| format!("{}:{:?}", node, triple))
-        .collect();
-    format!("table of {} numbers {}", table.len(), nodes.join(" "))
-}
-
-/// A PSL table, as a line too if it is accepted.
-fn shown_psl(table: &[u16]) -> String {
-    match oracle::check_psl(table) {
-        Ok(()) => format!(
-            "{} {}",
-            shown_line(&generate::spell(table)),
-            shown_table(table)
-        ),
-        Err(_) => shown_table(table),
-    }
-}
-
-fn shown_trace(lead: &[u32], cycle: &[u32]) -> String {
-    shown_line(&generate::spell_trace(lead, cycle))
-}
-
-fn shown_case(case: &Case) -> String {
-    match case {
-        Case::CheckPsl { table } => shown_psl(table),
-        Case::CheckLtl { table } => shown_table(table),
-        Case::PslVerdict { table, lead, cycle } => {
-            format!("{} on {}", shown_psl(table), shown_trace(lead, cycle))
-        }
-        Case::LtlVerdict { table, lead, cycle } => {
-            format!("{} on {}", shown_table(table), shown_trace(lead, cycle))
-        }
-        Case::Translate { table, space } => format!("{}, space {}", shown_psl(table), space),
-        Case::LetterAt {
-            lead,
-            cycle,
-            moment,
-        } => format!("moment {} of {}", moment, shown_trace(lead, cycle)),
-        Case::Rest {
-            lead,
-            cycle,
-            moment,
-            space,
-        } => format!(
-            "moment {} of {}, space {}",
-            moment,
-            shown_trace(lead, cycle),
-            space
-        ),
-        Case::FormulaLine { line, space } => format!("{}, space {}", shown_line(line), space),
-        Case::TraceLine {
-            line,
-            lead_space,
-            cycle_space,
-        } => format!(
-            "{}, space {} and {}",
-            shown_line(line),
-            lead_space,
-            cycle_space
-        ),
-        Case::NodeLine {
-            own,
-            kind,
-            left,
-            right,
-            space,
-        } => format!("node {}: {} {} {}, space {}", own, kind, left, right, space),
-        Case::Run { input } => shown_line(input),
-    }
-}
-
-fn shown_difference(case: &Case, got: &Outcome, due: &Outcome) -> String {
-    format!(
-        "{}\n  answer {}, due {}; differs in {}",
-        shown_case(case),
-        got.answer,
-        due.answer,
-        got.difference(due).unwrap_or_default()
-    )
-}
-
-/// The first line in which two outputs differ.
-fn shown_outputs(got: &[u8], due: &[u8]) -> String {
-    let lines = |output: &[u8]| -> Vec<String> {
-        let lines = output.split_inclusive(|&byte| byte == b'\n');
-        lines.map(shown_line).collect()
-    };
-    let (got, due) = (lines(got), lines(due));
-    let last = got.len().max(due.len());
-    let at = (0..last).find(|&at| got.get(at) != due.get(at));
-    let at = at.unwrap_or(last);
-    let shown = |lines: &[String]| lines.get(at).map_or("nothing".to_string(), String::clone);
-    format!(
-        "line {}: printed {}, due {}",
-        at + 1,
-        shown(&got),
-        shown(&due)
-    )
-}
-
-// ------------------------------------------------------------ operations
-
-/// The fixed cases of an operation, then random ones.
-fn for_cases<F: FnMut(&Case, u64)>(operation: usize, seed: u64, random: usize, mut visit: F) {
-    let mut rng = Rng::new(seed + operation as u64);
-    for case in borders::cases(operation) {
-        visit(&case, rng.next());
-    }
-    for _ in 0..random {
-        let case = generate::case_of(&mut rng, operation);
-        visit(&case, rng.next());
-    }
-}
-
-/// Compares one operation of a contender with the evaluator.
-fn compare_operation(
-    contender: &Operations,
-    operation: usize,
+/// The lists lent to an operation, filled with what equal seeds make equal,
+/// margins included.
+#[derive(PartialEq, Debug)]
+pub struct Lent {
     seed: u64,
-    count: &mut Count,
-    random: usize,
-) {
-    for_cases(operation, seed, random, |case, filling| {
-        let due = outcome(&ORACLE, case, filling);
-        let got = outcome(contender, case, filling);
-        count.note(answer_of(operation, due.answer), got == due, || {
-            shown_difference(case, &got, &due)
-        });
-    });
+    numbers: Vec<u16>,
+    bytes: Vec<u8>,
+    letters: [Vec<Letter>; 2],
 }
 
-fn compare_library(seed: u64, totals: &mut Totals) {
-    for (operation, name) in NAMES.into_iter().enumerate() {
-        let mut count = Count::new(name);
-        compare_operation(&LIBRARY, operation, seed, &mut count, CASES);
-        count.finish(totals);
+impl Lent {
+    fn new(seed: u64) -> Lent {
+        Lent {
+            seed,
+            numbers: Vec::new(),
+            bytes: Vec::new(),
+            letters: [Vec::new(), Vec::new()],
+        }
+    }
+
+    pub fn numbers(&mut self, space: usize) -> &mut [u16] {
+        filled(&mut self.numbers, space, self.seed, |bits| bits as u16)
+    }
+
+    pub fn bytes(&mut self, space: usize) -> &mut [u8] {
+        filled(&mut self.bytes, space, self.seed, |bits| bits as u8)
+    }
+
+    pub fn letters(&mut self, spaces: [usize; 2]) -> [&mut [Letter]; 2] {
+        let [first, second] = &mut self.letters;
+        [
+            filled(first, spaces[0], self.seed, |bits| bits as Letter),
+            filled(second, spaces[1], !self.seed, |bits| bits as Letter),
+        ]
     }
 }
 
-/// All the bit-parallel contender does, on other cases than the library.
-fn compare_parallel(seed: u64, totals: &mut Totals) {
-    let mut count = Count::new("bit-parallel contender");
-    for operation in [0, 1, 2, 3, 4, 7, 8, 9] {
-        compare_operation(&PARALLEL, operation, seed + 50, &mut count, CASES / 8);
-    }
-    let mut rng = Rng::new(seed + 60);
-    let random = (0..RUNS).map(|_| generate::program_input(&mut rng));
-    for input in borders::inputs().into_iter().chain(random) {
-        let same = parallel::reference_run(&input) == oracle::run(&input);
-        count.note(Answer::Value("run"), same, || shown_line(&input));
-    }
-    count.finish(totals);
+/// Fills a list and its margins, and returns the part between them.
+fn filled<T>(list: &mut Vec<T>, space: usize, seed: u64, value: fn(u64) -> T) -> &mut [T] {
+    let mut rng = Rng::new(seed);
+    list.extend((0..space + 2 * MARGIN).map(|_| value(rng.next())));
+    &mut list[MARGIN..MARGIN + space]
 }
 
-// -------------------------------------------------------------- demand 3
+/// A line or a text, shown as one.
+#[derive(PartialEq, Clone)]
+pub struct Line(pub Vec<u8>);
 
-/// The library's PSL verdict is its LTL verdict of the table its translator
-/// left, on traces that are not empty.
-fn compare_verdicts(seed: u64, totals: &mut Totals) {
-    let mut count = Count::new("psl verdict as ltl verdict of the translation");
-    let mut rng = Rng::new(seed + 20);
-    let mut out = vec![0u16; 3 * oracle::MAX_LTL_NODES];
-    for _ in 0..PAIRS {
-        let size = generate::psl_size(&mut rng);
-        let table = generate::psl_table(&mut rng, size);
-        let letters = match rng.below(12) {
-            0 => 64,
-            1 => rng.between(9, 63),
-            _ => rng.between(1, 8),
-        };
-        let (lead, cycle) = generate::trace_of(&mut rng, letters);
-        let by_psl = library::psl_verdict(&table, &lead, &cycle);
-        let size = library::translate(&table, &mut out);
-        let ltl = out.get(..3 * size.saturating_sub(256) as usize);
-        let by_ltl = ltl.map(|ltl| library::ltl_verdict(ltl, &lead, &cycle));
-        let same = by_psl >= 256 && by_ltl == Some(by_psl);
-        count.note(answer_of(2, by_psl), same, || {
-            format!(
-                "{} on {}\n  psl {}, translation {}, ltl {:?}",
-                shown_psl(&table),
-                shown_trace(&lead, &cycle),
-                by_psl,
-                size,
-                by_ltl
-            )
-        });
+impl Debug for Line {
+    fn fmt(&self, out: &mut Formatter) -> fmt::Result {
+        write!(out, "\"{}\"", self.0.escape_ascii())
     }
-    count.finish(totals);
 }
 
-// --------------------------------------------------------------- program
+// ------------------------------------------------------------ comparison
 
-/// Runs the program on an input handed over in pieces of this size, and
-/// returns what it prints; none if it could not be run to its end.
-fn program_output(program: &str, input: &[u8], piece: usize) -> Option<Vec<u8>> {
-    let mut child = Command::new(program)
-        .stdin(Stdio::piped())
-        .stdout(Stdio::piped())
-        .spawn()
-        .ok()?;
-    let mut stdin = child.stdin.take()?;
-    let output = std::thread::scope(|scope| {
-        scope.spawn(move || {
-            // A program that has refused line 1 may have stopped reading.
-            for part in input.chunks(piece) {
-                if stdin.write_all(part).is_err() {
-                    break;
+/// What an operation answers where it refuses nothing.
+pub trait Value: PartialEq + Debug {
+    /// What it is counted as.
+    fn name(&self) -> &'static str {
+        "accepted"
+    }
+}
+
+impl Value for () {}
+impl Value for usize {}
+impl Value for (usize, usize) {}
+impl Value for Letter {}
+
+impl Value for bool {
+    fn name(&self) -> &'static str {
+        ["no", "yes"][*self as usize]
+    }
+}
+
+/// One operation with inputs of type `I`, done by functions of type `F`.
+pub struct Operation<I, F, T> {
+    pub name: &'static str,
+    /// The refusals that have to occur.
+    pub refusals: &'static [u8],
+    pub fixed: Vec<I>,
+    /// How many random inputs follow the fixed ones.
+    pub count: usize,
+    pub random: fn(&mut Rng) -> I,
+    /// Done by the library or the program, and by the evaluator.
+    pub done: [F; 2],
+    /// Has an input answered.
+    pub ask: fn(&F, &I, &mut Lent) -> Result<T, Refusal>,
+}
+
+/// How often each answer was due.
+type Answers = BTreeMap<(u8, &'static str), usize>;
+
+/// What is counted over all operations.
+pub struct Report {
+    seed: u64,
+    passed: usize,
+    failed: usize,
+}
+
+impl Report {
+    /// Has all inputs of an operation answered by both.
+    pub fn compare<I: Debug, F, T: Value>(&mut self, operation: Operation<I, F, T>) {
+        let name = operation.name;
+        let start = Instant::now();
+        let mut rng = Rng::new(self.seed);
+        let mut answers = Answers::new();
+        let mut differ = 0;
+        let random = (0..operation.count).map(|_| (operation.random)(&mut rng));
+        for (input, seed) in operation.fixed.into_iter().chain(random).zip(self.seed..) {
+            let [got, due] = operation.done.each_ref().map(|by| {
+                let mut lent = Lent::new(seed);
+                ((operation.ask)(by, &input, &mut lent), lent)
+            });
+            *answers.entry(counted(&due.0)).or_insert(0) += 1;
+            if got != due {
+                differ += 1;
+                if differ <= SHOWN {
+                    println!("DIFFERS {}: {}", name, shown(&input, &got, &due));
                 }
             }
-        });
-        child.wait_with_output()
-    });
-    let output = output.ok()?;
-    output.status.code().map(|_| output.stdout)
-}
+        }
+        self.note(name, differ, &answers, start);
+        self.expect(name, operation.refusals, &answers);
+    }
 
-/// A formula and many trace lines, some of them refused, some too long.
-fn many_lines(rng: &mut Rng, lines: usize) -> Vec<u8> {
-    let size = rng.between(4, 14);
-    let table = generate::psl_table(rng, size);
-    let mut input = generate::spell(&table);
-    for _ in 0..lines {
-        input.push(b'\n');
-        if rng.once_in(20) {
-            input.extend(generate::trace_line(rng));
-        } else {
-            let letters = rng.between(0, 6);
-            let (lead, cycle) = generate::trace_of(rng, letters);
-            input.extend(generate::spell_trace(&lead, &cycle));
+    /// Prints the line of an operation and adds to the totals.
+    fn note(&mut self, name: &str, differ: usize, answers: &Answers, start: Instant) {
+        let inputs: usize = answers.values().sum();
+        let seconds = start.elapsed().as_secs_f64();
+        print!("{name}: {inputs} inputs, {differ} differ, {seconds:.1} s;");
+        for ((number, answer), times) in answers {
+            match number {
+                0 => print!(" {answer}: {times}"),
+                _ => print!(" {answer} {number}: {times}"),
+            }
+        }
+        println!();
+        self.passed += inputs - differ;
+        self.failed += differ;
+    }
+
+    /// A refusal that hardly occurs is hardly compared.
+    fn expect(&mut self, name: &str, refusals: &[u8], answers: &Answers) {
+        for &number in refusals {
+            let times = answers.get(&(number, "refusal")).copied().unwrap_or(0);
+            if times < LEAST {
+                println!("TOO FEW {name}: refusal {number} occurred {times} times");
+                self.failed += 1;
+            }
         }
     }
-    if !rng.once_in(3) {
-        input.push(b'\n');
-    }
-    input
 }
 
-fn compare_program(program: &str, seed: u64, totals: &mut Totals) {
-    let mut count = Count::new("program");
-    let mut rng = Rng::new(seed + 30);
-    let mut inputs = borders::inputs();
-    inputs.push(many_lines(&mut rng, LONG_RUN));
-    for _ in 0..RUNS {
-        let input = if rng.once_in(40) {
-            let lines = rng.between(200, 3000);
-            many_lines(&mut rng, lines)
-        } else {
-            generate::program_input(&mut rng)
-        };
-        inputs.push(input);
+/// What an answer is counted as; the number of a refusal, or 0.
+fn counted<T: Value>(answer: &Result<T, Refusal>) -> (u8, &'static str) {
+    match answer {
+        Ok(value) => (0, value.name()),
+        Err(refusal) => (*refusal, "refusal"),
     }
-    for input in inputs {
-        let due = oracle::run(&input);
-        let piece = if input.len() < 2000 && rng.once_in(8) {
-            rng.between(1, 40)
-        } else {
-            input.len().max(1)
-        };
-        let got = program_output(program, &input, piece);
-        let stopped = due.starts_with(b"(refused 1 ");
-        let answer = if stopped { "line 1 refused" } else { "run" };
-        count.note(Answer::Value(answer), got.as_ref() == Some(&due), || {
-            let got = got.as_deref().unwrap_or(b"(the program failed)");
-            format!("{}\n  {}", shown_line(&input), shown_outputs(got, &due))
-        });
-    }
-    count.finish(totals);
+}
+
+/// An input, and both outcomes around the first place in which they differ.
+fn shown<I: Debug, O: Debug>(input: &I, got: &O, due: &O) -> String {
+    let (got, due) = (format!("{:?}", got), format!("{:?}", due));
+    let same = got.bytes().zip(due.bytes()).take_while(|(a, b)| a == b);
+    let from = same.count().saturating_sub(80);
+    let part = |text: &str| text.chars().skip(from).take(240).collect::<String>();
+    let input: String = format!("{:?}", input).chars().take(800).collect();
+    format!("{}\n  got ..{}\n  due ..{}", input, part(&got), part(&due))
 }
 
 fn main() {
-    let mut seed = DEFAULT_SEED;
-    let mut program = None;
-    for argument in std::env::args().skip(1) {
-        match argument.parse() {
-            Ok(number) => seed = number,
-            Err(_) => program = Some(argument),
-        }
-    }
-    println!("seed {}", seed);
-    let mut totals = Totals {
+    let mut report = Report {
+        seed: DEFAULT_SEED,
         passed: 0,
         failed: 0,
     };
-    compare_library(seed, &mut totals);
-    compare_verdicts(seed, &mut totals);
+    let mut program = None;
+    for argument in std::env::args().skip(1) {
+        match argument.parse() {
+            Ok(number) => report.seed = number,
+            Err(_) => program = Some(argument),
+        }
+    }
+    println!("seed {}", report.seed);
+    for compare in operations::ALL {
+        compare(&mut report);
+    }
     match program {
-        Some(program) => compare_program(&program, seed, &mut totals),
+        Some(program) => operations::compare_program(&mut report, program),
         None => println!("program: not given, not run"),
     }
-    compare_parallel(seed, &mut totals);
-    println!(
-        "compare: {} passed, {} failed",
-        totals.passed, totals.failed
-    );
-    if totals.failed > 0 {
+    let Report { passed, failed, .. } = report;
+    println!("compare: {} passed, {} failed", passed, failed);
+    if failed > 0 {
         std::process::exit(1);
     }
 }

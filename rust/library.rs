@@ -1,22 +1,34 @@
-//! The library's exported functions. Slices pass as pointer and length.
-//!
-//! An answer below 256 is a refusal number; what is accepted is 256 or more.
+//! The library's exported functions, with Results for their codes.
 
 #![allow(dead_code)]
 
+use super::types::{Letter, Refusal};
+
 mod exported {
+    use super::Letter;
+
     #[allow(improper_ctypes)]
     extern "C" {
         pub fn brancadol_check_psl(table: &[u16]) -> u64;
         pub fn brancadol_check_ltl(table: &[u16]) -> u64;
-        pub fn brancadol_psl_verdict(table: &[u16], lead: &[u32], cycle: &[u32]) -> u64;
-        pub fn brancadol_ltl_verdict(table: &[u16], lead: &[u32], cycle: &[u32]) -> u64;
+        pub fn brancadol_psl_verdict(table: &[u16], lead: &[Letter], cycle: &[Letter]) -> u64;
+        pub fn brancadol_ltl_verdict(table: &[u16], lead: &[Letter], cycle: &[Letter]) -> u64;
         pub fn brancadol_translate(table: &[u16], out: &mut [u16]) -> u64;
-        pub fn brancadol_letter_at(lead: &[u32], cycle: &[u32], moment: usize) -> u64;
-        // The moment comes last: see the library's own note.
-        pub fn brancadol_rest(lead: &[u32], cycle: &[u32], out: &mut [u32], moment: usize) -> u64;
+        pub fn brancadol_letter_at(
+            lead: &[Letter],
+            cycle: &[Letter],
+            moment: usize,
+            letter: &mut Letter,
+        ) -> u64;
+        // The moment comes last: no list may begin in the sixth word.
+        pub fn brancadol_rest(
+            lead: &[Letter],
+            cycle: &[Letter],
+            out: &mut [Letter],
+            moment: usize,
+        ) -> u64;
         pub fn brancadol_read_formula(line: &[u8], out: &mut [u16]) -> u64;
-        pub fn brancadol_read_trace(line: &[u8], lead: &mut [u32], cycle: &mut [u32]) -> u64;
+        pub fn brancadol_read_trace(line: &[u8], lead: &mut [Letter], cycle: &mut [Letter]) -> u64;
         pub fn brancadol_write_node(
             own: u16,
             kind: u16,
@@ -27,56 +39,78 @@ mod exported {
     }
 }
 
+/// A code is a refusal's number, or 0, and 256 times a value.
+fn decoded(code: u64) -> Result<u64, Refusal> {
+    match code % 256 {
+        0 => Ok(code / 256),
+        number => Err(number as Refusal),
+    }
+}
+
 // Every call below is sound: the library is proved safe for every argument
 // of these types.
 
-/// 256, or a refusal.
-pub fn check_psl(table: &[u16]) -> u64 {
-    unsafe { exported::brancadol_check_psl(table) }
+pub fn check_psl(table: &[u16]) -> Result<(), Refusal> {
+    decoded(unsafe { exported::brancadol_check_psl(table) }).map(|_| ())
 }
 
-/// 256, or a refusal.
-pub fn check_ltl(table: &[u16]) -> u64 {
-    unsafe { exported::brancadol_check_ltl(table) }
+pub fn check_ltl(table: &[u16]) -> Result<(), Refusal> {
+    decoded(unsafe { exported::brancadol_check_ltl(table) }).map(|_| ())
 }
 
-/// 256 no, 257 yes, or a refusal.
-pub fn psl_verdict(table: &[u16], lead: &[u32], cycle: &[u32]) -> u64 {
-    unsafe { exported::brancadol_psl_verdict(table, lead, cycle) }
+pub fn psl_verdict(table: &[u16], lead: &[Letter], cycle: &[Letter]) -> Result<bool, Refusal> {
+    decoded(unsafe { exported::brancadol_psl_verdict(table, lead, cycle) }).map(|yes| yes == 1)
 }
 
-/// 256 no, 257 yes, or a refusal.
-pub fn ltl_verdict(table: &[u16], lead: &[u32], cycle: &[u32]) -> u64 {
-    unsafe { exported::brancadol_ltl_verdict(table, lead, cycle) }
+pub fn ltl_verdict(table: &[u16], lead: &[Letter], cycle: &[Letter]) -> Result<bool, Refusal> {
+    decoded(unsafe { exported::brancadol_ltl_verdict(table, lead, cycle) }).map(|yes| yes == 1)
 }
 
-/// 256 + S, or a refusal.
-pub fn translate(table: &[u16], out: &mut [u16]) -> u64 {
-    unsafe { exported::brancadol_translate(table, out) }
+/// The nodes emitted.
+pub fn translate(table: &[u16], out: &mut [u16]) -> Result<usize, Refusal> {
+    decoded(unsafe { exported::brancadol_translate(table, out) }).map(|size| size as usize)
 }
 
-/// 256 + the letter, or a refusal.
-pub fn letter_at(lead: &[u32], cycle: &[u32], moment: usize) -> u64 {
-    unsafe { exported::brancadol_letter_at(lead, cycle, moment) }
+/// The letter goes into the lent place.
+pub fn letter_at(
+    lead: &[Letter],
+    cycle: &[Letter],
+    moment: usize,
+    letter: &mut Letter,
+) -> Result<(), Refusal> {
+    decoded(unsafe { exported::brancadol_letter_at(lead, cycle, moment, letter) }).map(|_| ())
 }
 
-/// 256 + the length of the part; its letters stand in `out`, as many as have
-/// room.
-pub fn rest(lead: &[u32], cycle: &[u32], moment: usize, out: &mut [u32]) -> u64 {
-    unsafe { exported::brancadol_rest(lead, cycle, out, moment) }
+/// The length of the part; its letters stand in `out`, as many as have room.
+pub fn rest(lead: &[Letter], cycle: &[Letter], moment: usize, out: &mut [Letter]) -> usize {
+    let code = unsafe { exported::brancadol_rest(lead, cycle, out, moment) };
+    decoded(code).expect("the rest of a list is not refused") as usize
 }
 
-/// 256 + the nodes, or a refusal.
-pub fn read_formula(line: &[u8], out: &mut [u16]) -> u64 {
-    unsafe { exported::brancadol_read_formula(line, out) }
+/// The nodes of the line.
+pub fn read_formula(line: &[u8], out: &mut [u16]) -> Result<usize, Refusal> {
+    decoded(unsafe { exported::brancadol_read_formula(line, out) }).map(|nodes| nodes as usize)
 }
 
-/// 256 + 65536 * lead-in length + cycle length, or a refusal.
-pub fn read_trace(line: &[u8], lead: &mut [u32], cycle: &mut [u32]) -> u64 {
-    unsafe { exported::brancadol_read_trace(line, lead, cycle) }
+/// Both lengths, which the library hands over as one value: the loop's length
+/// has the upper bits.
+pub fn read_trace(
+    line: &[u8],
+    lead: &mut [Letter],
+    cycle: &mut [Letter],
+) -> Result<(usize, usize), Refusal> {
+    decoded(unsafe { exported::brancadol_read_trace(line, lead, cycle) })
+        .map(|lengths| ((lengths % 65536) as usize, (lengths / 65536) as usize))
 }
 
-/// 256 + the length, or a refusal.
-pub fn write_node(own: u16, kind: u16, left: u16, right: u16, out: &mut [u8]) -> u64 {
-    unsafe { exported::brancadol_write_node(own, kind, left, right, out) }
+/// The bytes of the line, its byte 10 among them.
+pub fn write_node(
+    own: u16,
+    kind: u16,
+    left: u16,
+    right: u16,
+    out: &mut [u8],
+) -> Result<usize, Refusal> {
+    decoded(unsafe { exported::brancadol_write_node(own, kind, left, right, out) })
+        .map(|length| length as usize)
 }

@@ -1,220 +1,325 @@
-//! The ten operations behind one set of signatures, whoever does them, and
-//! what one of them leaves behind on a case.
+//! Each operation as one block: its inputs, and how the library and the
+//! evaluator are asked.
 
-use super::generate::{Case, Rng};
-use super::{library, oracle, parallel};
+use super::generate::{self, Rng, Trace};
+use super::types::{Letter, Refusal};
+use super::{borders, library, oracle, Line, Operation, Report, Value};
+use std::io::Write;
+use std::process::{Command, Stdio};
 
-/// The ten operations, with answers coded as the library codes them.
-pub struct Operations {
-    pub check_psl: fn(&[u16]) -> u64,
-    pub check_ltl: fn(&[u16]) -> u64,
-    pub psl_verdict: fn(&[u16], &[u32], &[u32]) -> u64,
-    pub ltl_verdict: fn(&[u16], &[u32], &[u32]) -> u64,
-    pub translate: fn(&[u16], &mut [u16]) -> u64,
-    pub letter_at: fn(&[u32], &[u32], usize) -> u64,
-    pub rest: fn(&[u32], &[u32], usize, &mut [u32]) -> u64,
-    pub read_formula: fn(&[u8], &mut [u16]) -> u64,
-    pub read_trace: fn(&[u8], &mut [u32], &mut [u32]) -> u64,
-    pub write_node: fn(u16, u16, u16, u16, &mut [u8]) -> u64,
+/// Random inputs of an operation, next to the fixed ones.
+const INPUTS: usize = 120_000;
+/// Random whole inputs.
+const RUNS: usize = 2_400;
+/// Trace lines of the longest whole input.
+const LONG_RUN: usize = 100_000;
+
+/// All operations of the library.
+pub const ALL: [fn(&mut Report); 11] = [
+    psl_check,
+    ltl_check,
+    psl_verdict,
+    ltl_verdict,
+    translation,
+    both_verdicts,
+    letter_of_a_moment,
+    rest_of_a_list,
+    formula_line,
+    trace_line,
+    node_line,
+];
+
+// ---------------------------------------------------------------- tables
+
+fn psl_check(report: &mut Report) {
+    report.compare(Operation {
+        name: "psl check",
+        refusals: &[1, 2, 3, 4, 5, 6, 7, 8],
+        fixed: borders::psl_tables(),
+        count: INPUTS,
+        random: generate::any_psl_table,
+        done: [library::check_psl, oracle::check_psl],
+        ask: |check, table, _| check(table),
+    });
 }
 
-/// The code of an accepted value or a refusal.
-fn coded(answer: Result<usize, u8>) -> u64 {
-    match answer {
-        Ok(value) => 256 + value as u64,
-        Err(number) => number as u64,
-    }
+fn ltl_check(report: &mut Report) {
+    report.compare(Operation {
+        name: "ltl check",
+        refusals: &[11, 12, 13, 14, 15],
+        fixed: borders::ltl_tables(),
+        count: INPUTS,
+        random: generate::any_ltl_table,
+        done: [library::check_ltl, oracle::check_ltl],
+        ask: |check, table, _| check(table),
+    });
 }
 
-/// The code of both lengths of a trace read.
-fn coded_lengths(answer: Result<(usize, usize), u8>) -> u64 {
-    coded(answer.map(|(lead, cycle)| 65536 * lead + cycle))
+/// A table from one of two generators, and any trace.
+fn judged(rng: &mut Rng, tables: [fn(&mut Rng) -> Vec<u16>; 2]) -> (Vec<u16>, Trace) {
+    let table = rng.pick(&tables)(rng);
+    (table, generate::any_trace(rng))
+}
+
+fn psl_verdict(report: &mut Report) {
+    report.compare(Operation {
+        name: "psl verdict",
+        refusals: &[1, 2, 3, 4, 5, 6, 7, 8, 9],
+        fixed: borders::psl_verdicts(),
+        count: INPUTS,
+        random: |rng| judged(rng, [generate::some_psl_table, generate::any_psl_table]),
+        done: [library::psl_verdict, oracle::psl_verdict],
+        ask: |judge, (table, (lead, cycle)), _| judge(table, lead, cycle),
+    });
+}
+
+fn ltl_verdict(report: &mut Report) {
+    report.compare(Operation {
+        name: "ltl verdict",
+        refusals: &[9, 11, 12, 13, 14, 15, 16],
+        fixed: borders::ltl_verdicts(),
+        count: INPUTS,
+        random: |rng| judged(rng, [generate::some_ltl_table, generate::any_ltl_table]),
+        done: [library::ltl_verdict, oracle::ltl_verdict],
+        ask: |judge, (table, (lead, cycle)), _| judge(table, lead, cycle),
+    });
+}
+
+fn translation(report: &mut Report) {
+    report.compare(Operation {
+        name: "translation",
+        refusals: &[1, 2, 3, 4, 5, 6, 7, 8, 10],
+        fixed: borders::translations(),
+        count: INPUTS,
+        random: |rng| {
+            let table = generate::any_psl_table(rng);
+            let mut out = [0; 3 * oracle::MAX_LTL_NODES];
+            let size = oracle::translate(&table, &mut out).unwrap_or(8);
+            (table, generate::space(rng, 3 * size))
+        },
+        done: [library::translate, oracle::translate],
+        ask: |translate, (table, space), lent| translate(table, lent.numbers(*space)),
+    });
+}
+
+/// The LTL verdict on what the library's translation leaves.
+fn verdict_of_translation(
+    table: &[u16],
+    lead: &[Letter],
+    cycle: &[Letter],
+) -> Result<bool, Refusal> {
+    let mut out = [0; 3 * oracle::MAX_LTL_NODES];
+    let size = library::translate(table, &mut out)?;
+    library::ltl_verdict(&out[..3 * size], lead, cycle)
+}
+
+fn both_verdicts(report: &mut Report) {
+    report.compare(Operation {
+        name: "ltl verdict of the translation as psl verdict",
+        refusals: &[],
+        fixed: Vec::new(),
+        count: INPUTS,
+        random: |rng| {
+            let letters = match rng.below(12) {
+                0 => 64,
+                1 => rng.between(9, 63),
+                _ => rng.between(1, 8),
+            };
+            let table = generate::accepted_psl_table(rng);
+            (table, generate::trace_of(rng, letters))
+        },
+        done: [verdict_of_translation, library::psl_verdict],
+        ask: |judge, (table, (lead, cycle)), _| judge(table, lead, cycle),
+    });
+}
+
+// ---------------------------------------------------------------- traces
+
+/// The evaluator's letter, put into the lent place.
+fn letter_put(
+    lead: &[Letter],
+    cycle: &[Letter],
+    moment: usize,
+    letter: &mut Letter,
+) -> Result<(), Refusal> {
+    *letter = oracle::letter_at(lead, cycle, moment)?;
+    Ok(())
+}
+
+fn letter_of_a_moment(report: &mut Report) {
+    report.compare(Operation {
+        name: "letter of a moment",
+        refusals: &[25],
+        fixed: Vec::new(),
+        count: INPUTS,
+        random: generate::moment_of_trace,
+        done: [library::letter_at, letter_put],
+        ask: |letter_at, ((lead, cycle), moment), lent| {
+            let [letter, _] = lent.letters([1, 0]);
+            letter_at(lead, cycle, *moment, &mut letter[0])
+        },
+    });
 }
 
 /// The evaluator's part, of which as many letters are copied as have room.
-fn oracle_rest(lead: &[u32], cycle: &[u32], moment: usize, out: &mut [u32]) -> u64 {
-    let (list, start, end) = oracle::rest(lead, cycle, moment);
-    let part = match list {
-        oracle::List::Lead => &lead[start..end],
-        oracle::List::Cycle => &cycle[start..end],
-    };
+fn rest_copied(lead: &[Letter], cycle: &[Letter], moment: usize, out: &mut [Letter]) -> usize {
+    let part = oracle::rest(lead, cycle, moment);
     for (place, letter) in out.iter_mut().zip(part) {
         *place = *letter;
     }
-    coded(Ok(part.len()))
+    part.len()
 }
 
-pub const LIBRARY: Operations = Operations {
-    check_psl: library::check_psl,
-    check_ltl: library::check_ltl,
-    psl_verdict: library::psl_verdict,
-    ltl_verdict: library::ltl_verdict,
-    translate: library::translate,
-    letter_at: library::letter_at,
-    rest: library::rest,
-    read_formula: library::read_formula,
-    read_trace: library::read_trace,
-    write_node: library::write_node,
-};
-
-pub const ORACLE: Operations = Operations {
-    check_psl: |table| coded(oracle::check_psl(table).map(|_| 0)),
-    check_ltl: |table| coded(oracle::check_ltl(table).map(|_| 0)),
-    psl_verdict: |table, lead, cycle| {
-        coded(oracle::psl_verdict(table, lead, cycle).map(usize::from))
-    },
-    ltl_verdict: |table, lead, cycle| {
-        coded(oracle::ltl_verdict(table, lead, cycle).map(usize::from))
-    },
-    translate: |table, out| coded(oracle::translate(table, out)),
-    letter_at: |lead, cycle, moment| {
-        coded(oracle::letter_at(lead, cycle, moment).map(|letter| letter as usize))
-    },
-    rest: oracle_rest,
-    read_formula: |line, out| coded(oracle::read_formula_line(line, out)),
-    read_trace: |line, lead, cycle| coded_lengths(oracle::read_trace_line(line, lead, cycle)),
-    write_node: |own, kind, left, right, out| {
-        coded(oracle::write_node_line(own, kind, left, right, out))
-    },
-};
-
-/// The bit-parallel contender, which has no look at a trace of its own.
-pub const PARALLEL: Operations = Operations {
-    check_psl: |table| coded(parallel::check_psl(table).map(|_| 0)),
-    check_ltl: |table| coded(parallel::check_ltl(table).map(|_| 0)),
-    psl_verdict: |table, lead, cycle| {
-        coded(parallel::psl_verdict(table, lead, cycle).map(usize::from))
-    },
-    ltl_verdict: |table, lead, cycle| {
-        coded(parallel::ltl_verdict(table, lead, cycle).map(usize::from))
-    },
-    translate: |table, out| coded(parallel::translate(table, out)),
-    letter_at: ORACLE.letter_at,
-    rest: ORACLE.rest,
-    read_formula: |line, out| coded(parallel::read_formula(line, out)),
-    read_trace: |line, lead, cycle| coded_lengths(parallel::read_trace(line, lead, cycle)),
-    write_node: |own, kind, left, right, out| {
-        coded(parallel::write_node(own, kind, left, right, out))
-    },
-};
-
-/// Places on each side of a lent list that belong to nobody.
-const MARGIN: usize = 4;
-
-/// A list of random values, of which the part inside the margins is lent.
-struct Lent<T> {
-    all: Vec<T>,
+fn rest_of_a_list(report: &mut Report) {
+    report.compare(Operation {
+        name: "rest of a list",
+        refusals: &[],
+        fixed: Vec::new(),
+        count: INPUTS,
+        random: |rng| {
+            let ((lead, cycle), moment) = generate::moment_of_trace(rng);
+            let enough = oracle::rest(&lead, &cycle, moment).len();
+            (lead, cycle, moment, generate::space(rng, enough))
+        },
+        done: [library::rest, rest_copied],
+        ask: |rest, (lead, cycle, moment, space), lent| {
+            let [out, _] = lent.letters([*space, 0]);
+            Ok(rest(lead, cycle, *moment, out))
+        },
+    });
 }
 
-impl<T> Lent<T> {
-    fn new(rng: &mut Rng, space: usize, value: fn(u64) -> T) -> Lent<T> {
-        let all = (0..space + 2 * MARGIN).map(|_| value(rng.next())).collect();
-        Lent { all }
-    }
+// ----------------------------------------------------------------- lines
 
-    fn space(&mut self) -> &mut [T] {
-        let end = self.all.len() - MARGIN;
-        &mut self.all[MARGIN..end]
+fn formula_line(report: &mut Report) {
+    report.compare(Operation {
+        name: "formula line",
+        refusals: &[17, 18, 19, 20, 23],
+        fixed: borders::formula_lines(),
+        count: INPUTS,
+        random: |rng| {
+            let line = generate::any_formula_line(rng);
+            let mut out = [0; 3 * oracle::MAX_PSL_NODES];
+            let nodes = oracle::read_formula(&line, &mut out).unwrap_or(8);
+            (Line(line), generate::space(rng, 3 * nodes))
+        },
+        done: [library::read_formula, oracle::read_formula],
+        ask: |read, (line, space), lent| read(&line.0, lent.numbers(*space)),
+    });
+}
+
+fn trace_line(report: &mut Report) {
+    report.compare(Operation {
+        name: "trace line",
+        refusals: &[17, 18, 21, 22, 23],
+        fixed: borders::trace_lines(),
+        count: INPUTS,
+        random: |rng| {
+            let line = generate::any_trace_line(rng);
+            let mut out = [[0; 64]; 2];
+            let [lead, cycle] = &mut out;
+            let (lead, cycle) = oracle::read_trace(&line, lead, cycle).unwrap_or((3, 3));
+            let spaces = match rng.below(3) {
+                0 => [generate::space(rng, lead), generate::space(rng, cycle)],
+                1 => [64, 64],
+                _ => [lead, cycle],
+            };
+            (Line(line), spaces)
+        },
+        done: [library::read_trace, oracle::read_trace],
+        ask: |read, (line, spaces), lent| {
+            let [lead, cycle] = lent.letters(*spaces);
+            read(&line.0, lead, cycle)
+        },
+    });
+}
+
+fn node_line(report: &mut Report) {
+    report.compare(Operation {
+        name: "node line",
+        refusals: &[11, 12, 13, 14, 15, 24],
+        fixed: borders::node_lines(),
+        count: INPUTS,
+        random: |rng| {
+            let [own, kind, left, right] = generate::any_node(rng);
+            let mut out = [0; 64];
+            let length = oracle::write_node(own, kind, left, right, &mut out).unwrap_or(9);
+            ([own, kind, left, right], generate::space(rng, length))
+        },
+        done: [library::write_node, oracle::write_node],
+        ask: |write, ([own, kind, left, right], space), lent| {
+            write(*own, *kind, *left, *right, lent.bytes(*space))
+        },
+    });
+}
+
+// --------------------------------------------------------------- program
+
+impl Value for Line {
+    fn name(&self) -> &'static str {
+        let stopped = self.0.starts_with(b"(refused 1 ");
+        ["run", "line 1 refused"][stopped as usize]
     }
 }
 
-/// The answer to a case and what every lent list then holds, margins too.
-#[derive(PartialEq, Eq, Debug)]
-pub struct Outcome {
-    pub answer: u64,
-    pub lists: [Vec<u64>; 2],
-}
-
-impl Outcome {
-    fn answer(answer: u64) -> Outcome {
-        Outcome {
-            answer,
-            lists: [Vec::new(), Vec::new()],
-        }
-    }
-
-    fn with<T: Into<u64>>(mut self, place: usize, lent: Lent<T>) -> Outcome {
-        self.lists[place] = lent.all.into_iter().map(Into::into).collect();
-        self
-    }
-
-    /// Names the first place where two outcomes differ.
-    pub fn difference(&self, due: &Outcome) -> Option<String> {
-        if self.answer != due.answer {
-            return Some("the answers".to_string());
-        }
-        for (list, (got, due)) in self.lists.iter().zip(&due.lists).enumerate() {
-            if let Some(at) = (0..due.len()).find(|&at| got[at] != due[at]) {
-                return Some(format!(
-                    "lent list {}, place {} of {}: {}, due {}",
-                    list,
-                    at as i64 - MARGIN as i64,
-                    due.len() - 2 * MARGIN,
-                    got[at],
-                    due[at]
-                ));
+/// Runs the program on an input handed over in pieces of this size, and
+/// returns what it prints; none if it could not be run to its end.
+fn program_output(program: &str, input: &[u8], piece: usize) -> Option<Vec<u8>> {
+    let mut child = Command::new(program)
+        .stdin(Stdio::piped())
+        .stdout(Stdio::piped())
+        .spawn()
+        .ok()?;
+    let mut stdin = child.stdin.take()?;
+    let output = std::thread::scope(|scope| {
+        scope.spawn(move || {
+            // A program that has refused line 1 may have stopped reading.
+            for part in input.chunks(piece) {
+                if stdin.write_all(part).is_err() {
+                    break;
+                }
             }
-        }
-        None
-    }
+        });
+        child.wait_with_output()
+    });
+    let output = output.ok()?;
+    output.status.code().map(|_| output.stdout)
 }
 
-/// Does the operation of a case. Equal seeds fill the lent lists alike.
-pub fn outcome(operations: &Operations, case: &Case, seed: u64) -> Outcome {
-    let rng = &mut Rng::new(seed);
-    match case {
-        Case::CheckPsl { table } => Outcome::answer((operations.check_psl)(table)),
-        Case::CheckLtl { table } => Outcome::answer((operations.check_ltl)(table)),
-        Case::PslVerdict { table, lead, cycle } => {
-            Outcome::answer((operations.psl_verdict)(table, lead, cycle))
-        }
-        Case::LtlVerdict { table, lead, cycle } => {
-            Outcome::answer((operations.ltl_verdict)(table, lead, cycle))
-        }
-        Case::Translate { table, space } => {
-            let mut out = Lent::new(rng, *space, |bits| bits as u16);
-            Outcome::answer((operations.translate)(table, out.space())).with(0, out)
-        }
-        Case::LetterAt {
-            lead,
-            cycle,
-            moment,
-        } => Outcome::answer((operations.letter_at)(lead, cycle, *moment)),
-        Case::Rest {
-            lead,
-            cycle,
-            moment,
-            space,
-        } => {
-            let mut out = Lent::new(rng, *space, |bits| bits as u32);
-            let answer = (operations.rest)(lead, cycle, *moment, out.space());
-            Outcome::answer(answer).with(0, out)
-        }
-        Case::FormulaLine { line, space } => {
-            let mut out = Lent::new(rng, *space, |bits| bits as u16);
-            Outcome::answer((operations.read_formula)(line, out.space())).with(0, out)
-        }
-        Case::TraceLine {
-            line,
-            lead_space,
-            cycle_space,
-        } => {
-            let mut lead = Lent::new(rng, *lead_space, |bits| bits as u32);
-            let mut cycle = Lent::new(rng, *cycle_space, |bits| bits as u32);
-            let answer = (operations.read_trace)(line, lead.space(), cycle.space());
-            Outcome::answer(answer).with(0, lead).with(1, cycle)
-        }
-        Case::NodeLine {
-            own,
-            kind,
-            left,
-            right,
-            space,
-        } => {
-            let mut out = Lent::new(rng, *space, |bits| bits as u8);
-            let answer = (operations.write_node)(*own, *kind, *left, *right, out.space());
-            Outcome::answer(answer).with(0, out)
-        }
-        Case::Run { .. } => unreachable!("a whole run is a program's"),
-    }
+/// A whole input and the size of the pieces it is handed over in.
+fn any_run(rng: &mut Rng) -> (Line, usize) {
+    let traces = if rng.once_in(40) {
+        rng.between(200, 3000)
+    } else {
+        rng.below(7)
+    };
+    let input = generate::whole_input(rng, traces);
+    let piece = if input.len() < 2000 && rng.once_in(8) {
+        rng.between(1, 40)
+    } else {
+        1 << 20
+    };
+    (Line(input), piece)
+}
+
+pub fn compare_program(report: &mut Report, program: String) {
+    let long = generate::whole_input(&mut Rng::new(report.seed), LONG_RUN);
+    let inputs = borders::inputs().into_iter().chain([long]);
+    let by_program = |input: &[u8], piece| program_output(&program, input, piece);
+    let by_evaluator = |input: &[u8], _| Some(oracle::run(input));
+    report.compare(Operation {
+        name: "program",
+        refusals: &[],
+        fixed: inputs.map(|input| (Line(input), 1 << 20)).collect(),
+        count: RUNS,
+        random: any_run,
+        done: [
+            &by_program as &dyn Fn(&[u8], usize) -> Option<Vec<u8>>,
+            &by_evaluator,
+        ],
+        ask: |run, (input, piece), _| {
+            let failed = || b"(the program failed)".to_vec();
+            Ok(Line(run(&input.0, *piece).unwrap_or_else(failed)))
+        },
+    });
 }

@@ -5,11 +5,11 @@
 //! letters TOP and BOTTOM, straight from the definition; nothing here judges
 //! a PSL formula by translating it.
 //!
-//! Every operation returns `Result<_, u8>`, the error being the refusal
-//! number. A refused operation leaves every lent list as it was.
+//! A refused operation leaves every lent list as it was.
 
 #![allow(dead_code)]
 
+use super::types::{Letter, Refusal};
 use std::collections::HashMap;
 
 /// Most letters a verdict takes, lead-in and cycle together.
@@ -109,20 +109,20 @@ fn check_places(
     places: [Place; 2],
     values: [u16; 2],
     user: usize,
-    numbers: [u8; 3],
-) -> Result<(), u8> {
+    numbers: [Refusal; 3],
+) -> Result<(), Refusal> {
     let both = [(places[0], values[0]), (places[1], values[1])];
-    for &(place, value) in both.iter() {
+    for (place, value) in both {
         if place == Place::Unused && value != 0 {
             return Err(numbers[0]);
         }
     }
-    for &(place, value) in both.iter() {
+    for (place, value) in both {
         if place == Place::Signal && value > MAX_SIGNAL {
             return Err(numbers[1]);
         }
     }
-    for &(place, value) in both.iter() {
+    for (place, value) in both {
         if matches!(place, Place::Operand(_)) && value as usize >= user {
             return Err(numbers[2]);
         }
@@ -131,19 +131,16 @@ fn check_places(
 }
 
 /// PSL check, refusals 1 to 8.
-pub fn check_psl(table: &[u16]) -> Result<(), u8> {
+pub fn check_psl(table: &[u16]) -> Result<(), Refusal> {
     let nodes = table.len() / 3;
     if table.len() % 3 != 0 || nodes == 0 || nodes > MAX_PSL_NODES {
         return Err(1);
     }
     for node in 0..nodes {
         let (kind, left, right) = node_of(table, node);
-        let places = match psl_places(kind) {
-            Some(places) => places,
-            None => return Err(2),
-        };
+        let places = psl_places(kind).ok_or(2)?;
         check_places(places, [left, right], node, [3, 4, 5])?;
-        for &(place, value) in [(places[0], left), (places[1], right)].iter() {
+        for (place, value) in [(places[0], left), (places[1], right)] {
             if let Place::Operand(sort) = place {
                 if psl_sort(table[3 * value as usize]) != sort {
                     return Err(6);
@@ -155,7 +152,7 @@ pub fn check_psl(table: &[u16]) -> Result<(), u8> {
     for node in 0..nodes {
         let (kind, left, right) = node_of(table, node);
         let places = psl_places(kind).unwrap();
-        for &(place, value) in [(places[0], left), (places[1], right)].iter() {
+        for (place, value) in [(places[0], left), (places[1], right)] {
             if matches!(place, Place::Operand(_)) {
                 uses[value as usize] += 1;
             }
@@ -171,17 +168,15 @@ pub fn check_psl(table: &[u16]) -> Result<(), u8> {
 }
 
 /// LTL check, refusals 11 to 15.
-pub fn check_ltl(table: &[u16]) -> Result<(), u8> {
+pub fn check_ltl(table: &[u16]) -> Result<(), Refusal> {
     let nodes = table.len() / 3;
     if table.len() % 3 != 0 || nodes == 0 || nodes > MAX_LTL_NODES {
         return Err(11);
     }
     for node in 0..nodes {
         let (kind, left, right) = node_of(table, node);
-        match ltl_places(kind) {
-            None => return Err(12),
-            Some(places) => check_places(places, [left, right], node, [13, 14, 15])?,
-        }
+        let places = ltl_places(kind).ok_or(12)?;
+        check_places(places, [left, right], node, [13, 14, 15])?;
     }
     Ok(())
 }
@@ -190,8 +185,8 @@ pub fn check_ltl(table: &[u16]) -> Result<(), u8> {
 
 /// A letter of a word: one of the trace, or one of the two special ones.
 #[derive(Clone, Copy, PartialEq, Eq, Hash, Debug)]
-pub enum Letter {
-    Plain(u32),
+pub enum WordLetter {
+    Plain(Letter),
     Top,
     Bottom,
 }
@@ -204,12 +199,12 @@ pub enum Letter {
 /// short as it can be.
 #[derive(Clone, PartialEq, Eq, Hash, Debug)]
 pub struct Word {
-    prefix: Vec<Letter>,
-    cycle: Vec<Letter>,
+    prefix: Vec<WordLetter>,
+    cycle: Vec<WordLetter>,
 }
 
 impl Word {
-    pub fn new(mut prefix: Vec<Letter>, mut cycle: Vec<Letter>) -> Word {
+    pub fn new(mut prefix: Vec<WordLetter>, mut cycle: Vec<WordLetter>) -> Word {
         let size = cycle.len();
         for period in 1..size {
             if size % period == 0 && (period..size).all(|i| cycle[i] == cycle[i - period]) {
@@ -225,15 +220,15 @@ impl Word {
     }
 
     /// The word of a trace.
-    pub fn of_trace(lead: &[u32], cycle: &[u32]) -> Word {
+    pub fn of_trace(lead: &[Letter], cycle: &[Letter]) -> Word {
         Word::new(
-            lead.iter().map(|&l| Letter::Plain(l)).collect(),
-            cycle.iter().map(|&l| Letter::Plain(l)).collect(),
+            lead.iter().map(|&l| WordLetter::Plain(l)).collect(),
+            cycle.iter().map(|&l| WordLetter::Plain(l)).collect(),
         )
     }
 
     /// The letter at a moment; none past the end of a finite word.
-    pub fn letter(&self, moment: usize) -> Option<Letter> {
+    pub fn letter(&self, moment: usize) -> Option<WordLetter> {
         if moment < self.prefix.len() {
             Some(self.prefix[moment])
         } else if self.cycle.is_empty() {
@@ -257,10 +252,10 @@ impl Word {
 
     /// TOP and BOTTOM exchanged.
     pub fn dual(&self) -> Word {
-        let exchange = |letter: &Letter| match *letter {
-            Letter::Plain(l) => Letter::Plain(l),
-            Letter::Top => Letter::Bottom,
-            Letter::Bottom => Letter::Top,
+        let exchange = |letter: &WordLetter| match *letter {
+            WordLetter::Plain(l) => WordLetter::Plain(l),
+            WordLetter::Top => WordLetter::Bottom,
+            WordLetter::Bottom => WordLetter::Top,
         };
         Word::new(
             self.prefix.iter().map(exchange).collect(),
@@ -271,13 +266,11 @@ impl Word {
     /// The first letters, as many as said, followed by TOP for ever.
     pub fn cut(&self, first: usize) -> Word {
         let kept = (0..first).map(|j| self.letter(j).expect("cut inside the word"));
-        Word::new(kept.collect(), vec![Letter::Top])
+        Word::new(kept.collect(), vec![WordLetter::Top])
     }
 
-    /// How many moments a search looks at: all of a finite word, else the
-    /// prefix and `rounds` times the cycle.
-    ///
-    /// One round is enough.
+    /// How many moments a search looks at: the prefix and one round of the
+    /// cycle, which is enough.
     ///
     /// Until: from moment prefix + cycle on, the suffix from k is the suffix
     /// from k - cycle, so whatever holds from k on has held one round
@@ -291,8 +284,8 @@ impl Word {
     /// the order round. Cut later, a word is lower. So if some cut will do,
     /// the one at the earliest moment whose letter satisfies the Boolean
     /// does too, and that moment lies below prefix + cycle.
-    fn moments(&self, rounds: usize) -> usize {
-        self.prefix.len() + rounds * self.cycle.len()
+    fn moments(&self) -> usize {
+        self.prefix.len() + self.cycle.len()
     }
 }
 
@@ -303,7 +296,6 @@ impl Word {
 struct Judge<'a> {
     table: &'a [u16],
     nodes: usize,
-    rounds: usize,
     words: Vec<Word>,
     number_of: HashMap<Word, usize>,
     tail_of: Vec<Option<usize>>,
@@ -312,11 +304,10 @@ struct Judge<'a> {
 }
 
 impl<'a> Judge<'a> {
-    fn new(table: &'a [u16], rounds: usize) -> Judge<'a> {
+    fn new(table: &'a [u16]) -> Judge<'a> {
         Judge {
             table,
             nodes: table.len() / 3,
-            rounds,
             words: Vec::new(),
             number_of: HashMap::new(),
             tail_of: Vec::new(),
@@ -362,11 +353,11 @@ impl<'a> Judge<'a> {
 
     /// A letter satisfies a Boolean node. TOP satisfies every Boolean and
     /// BOTTOM none, whatever the Boolean is made of.
-    fn satisfies(&self, letter: Letter, node: usize) -> bool {
+    fn satisfies(&self, letter: WordLetter, node: usize) -> bool {
         let bits = match letter {
-            Letter::Top => return true,
-            Letter::Bottom => return false,
-            Letter::Plain(bits) => bits,
+            WordLetter::Top => return true,
+            WordLetter::Bottom => return false,
+            WordLetter::Plain(bits) => bits,
         };
         let (kind, left, right) = node_of(self.table, node);
         match kind {
@@ -388,12 +379,8 @@ impl<'a> Judge<'a> {
         let (kind, left, right) = node_of(self.table, node);
         let (left, right) = (left as usize, right as usize);
         let verdict = match kind {
-            PSL_WEAK => match self.words[word].letter(0) {
-                None => true,
-                Some(letter) => self.satisfies(letter, left),
-            },
-            PSL_STRONG => match self.words[word].letter(0) {
-                None => false,
+            PSL_WEAK | PSL_STRONG => match self.words[word].letter(0) {
+                None => kind == PSL_WEAK,
                 Some(letter) => self.satisfies(letter, left),
             },
             PSL_NOT => {
@@ -421,7 +408,7 @@ impl<'a> Judge<'a> {
     /// every earlier moment on.
     fn until_holds(&mut self, left: usize, right: usize, word: usize) -> bool {
         let mut from_here = word;
-        for _moment in 0..self.words[word].moments(self.rounds) {
+        for _moment in 0..self.words[word].moments() {
             if self.holds(right, from_here) {
                 return true;
             }
@@ -436,7 +423,7 @@ impl<'a> Judge<'a> {
     /// At some moment the letter satisfies the Boolean `right`, and `left`
     /// holds on the letters before it followed by TOP for ever.
     fn abort_holds(&mut self, left: usize, right: usize, word: usize) -> bool {
-        for moment in 0..self.words[word].moments(self.rounds) {
+        for moment in 0..self.words[word].moments() {
             let letter = self.words[word].letter(moment).unwrap();
             if self.satisfies(letter, right) {
                 let made = self.words[word].cut(moment);
@@ -451,89 +438,75 @@ impl<'a> Judge<'a> {
 }
 
 /// PSL verdict, refusals 1 to 8 and 9.
-pub fn psl_verdict(table: &[u16], lead: &[u32], cycle: &[u32]) -> Result<bool, u8> {
-    psl_verdict_rounds(table, lead, cycle, 1)
-}
-
-/// The same with searches that go round the cycle more than once. The answer
-/// must not depend on `rounds`, from 1 on.
-pub fn psl_verdict_rounds(
-    table: &[u16],
-    lead: &[u32],
-    cycle: &[u32],
-    rounds: usize,
-) -> Result<bool, u8> {
+pub fn psl_verdict(table: &[u16], lead: &[Letter], cycle: &[Letter]) -> Result<bool, Refusal> {
     check_psl(table)?;
     if lead.len() + cycle.len() > MAX_LETTERS {
         return Err(9);
     }
-    let mut judge = Judge::new(table, rounds);
+    let mut judge = Judge::new(table);
     let word = judge.number(Word::of_trace(lead, cycle));
     Ok(judge.holds(table.len() / 3 - 1, word))
 }
 
 // ----------------------------------------------------------- LTL verdict
 
+/// The listed moment that has the truths of this one: past the lists, the
+/// one a whole number of rounds earlier. None past the end of a finite trace.
+fn listed(lead: &[Letter], cycle: &[Letter], moment: usize) -> Option<usize> {
+    if moment < lead.len() + cycle.len() {
+        Some(moment)
+    } else if cycle.is_empty() {
+        None
+    } else {
+        Some(lead.len() + (moment - lead.len()) % cycle.len())
+    }
+}
+
+/// The truth of a node at a listed moment, by those of the nodes before it.
+fn ltl_truth(
+    node: (u16, u16, u16),
+    truth: &[Vec<bool>],
+    lead: &[Letter],
+    cycle: &[Letter],
+    moment: usize,
+) -> bool {
+    let (kind, left, right) = node;
+    let (l, r) = (left as usize, right as usize);
+    match kind {
+        LTL_TRUE => true,
+        LTL_VAR => letter_at(lead, cycle, moment).is_ok_and(|letter| (letter >> left) % 2 == 1),
+        LTL_NOT => !truth[l][moment],
+        LTL_AND => truth[l][moment] && truth[r][moment],
+        LTL_OR => truth[l][moment] || truth[r][moment],
+        LTL_NEXT => listed(lead, cycle, moment + 1).is_some_and(|next| truth[l][next]),
+        LTL_UNTIL => {
+            // The earliest witness comes at most one round after the moment
+            // asked or after the lead-in.
+            let mut moments = (moment..lead.len() + 2 * cycle.len())
+                .filter_map(|later| listed(lead, cycle, later));
+            let decides = moments.find(|&later| truth[r][later] || !truth[l][later]);
+            decides.is_some_and(|later| truth[r][later])
+        }
+        _ => unreachable!("unknown kind"),
+    }
+}
+
 /// LTL verdict, refusals 11 to 15, 9 and 16.
-pub fn ltl_verdict(table: &[u16], lead: &[u32], cycle: &[u32]) -> Result<bool, u8> {
+pub fn ltl_verdict(table: &[u16], lead: &[Letter], cycle: &[Letter]) -> Result<bool, Refusal> {
     check_ltl(table)?;
-    let listed = lead.len() + cycle.len();
-    if listed > MAX_LETTERS {
+    let letters = lead.len() + cycle.len();
+    if letters > MAX_LETTERS {
         return Err(9);
     }
-    if listed == 0 {
+    if letters == 0 {
         return Err(16);
     }
-    // Moments listed and beyond: a moment past the lists has the truths of
-    // the one a whole number of rounds earlier.
-    let listed_for = |moment: usize| -> usize {
-        if moment < listed {
-            moment
-        } else {
-            lead.len() + (moment - lead.len()) % cycle.len()
-        }
-    };
-    let inside = |moment: usize| moment < lead.len() || !cycle.is_empty();
-    // The earliest witness of an until asked at a listed moment comes at
-    // most one round after that moment or after the lead-in, so before this.
-    let search_end = lead.len() + 2 * cycle.len();
-
     let nodes = table.len() / 3;
     let mut truth: Vec<Vec<bool>> = Vec::with_capacity(nodes);
     for node in 0..nodes {
-        let (kind, left, right) = node_of(table, node);
-        let (l, r) = (left as usize, right as usize);
-        let mut row = Vec::with_capacity(listed);
-        for i in 0..listed {
-            let letter = if i < lead.len() {
-                lead[i]
-            } else {
-                cycle[i - lead.len()]
-            };
-            row.push(match kind {
-                LTL_TRUE => true,
-                LTL_VAR => (letter >> left) % 2 == 1,
-                LTL_NOT => !truth[l][i],
-                LTL_AND => truth[l][i] && truth[r][i],
-                LTL_OR => truth[l][i] || truth[r][i],
-                LTL_NEXT => inside(i + 1) && truth[l][listed_for(i + 1)],
-                LTL_UNTIL => {
-                    let mut found = false;
-                    for k in i..search_end {
-                        if truth[r][listed_for(k)] {
-                            found = true;
-                            break;
-                        }
-                        if !truth[l][listed_for(k)] {
-                            break;
-                        }
-                    }
-                    found
-                }
-                _ => unreachable!("unknown kind"),
-            });
-        }
-        truth.push(row);
+        let here = node_of(table, node);
+        let row = (0..letters).map(|moment| ltl_truth(here, &truth, lead, cycle, moment));
+        truth.push(row.collect());
     }
     Ok(truth[nodes - 1][0])
 }
@@ -584,11 +557,6 @@ impl Emitted {
                 let b = self.walk(table, left, accept, reject);
                 self.emit(LTL_NOT, b, 0)
             }
-            PSL_BAND => {
-                let b = self.walk(table, left, accept, reject);
-                let c = self.walk(table, right, accept, reject);
-                self.emit(LTL_AND, b, c)
-            }
             PSL_WEAK | PSL_STRONG => {
                 let b = self.walk(table, left, accept, reject);
                 self.accept_or_not_rejected(b, accept, reject)
@@ -597,11 +565,11 @@ impl Emitted {
                 let f = self.walk(table, left, reject, accept);
                 self.emit(LTL_NOT, f, 0)
             }
-            PSL_AND | PSL_UNTIL => {
+            PSL_BAND | PSL_AND | PSL_UNTIL => {
                 let f = self.walk(table, left, accept, reject);
                 let g = self.walk(table, right, accept, reject);
-                let result = if kind == PSL_AND { LTL_AND } else { LTL_UNTIL };
-                self.emit(result, f, g)
+                let until = kind == PSL_UNTIL;
+                self.emit(if until { LTL_UNTIL } else { LTL_AND }, f, g)
             }
             PSL_NEXT => {
                 let f = self.walk(table, left, accept, reject);
@@ -619,7 +587,7 @@ impl Emitted {
 }
 
 /// Translator, refusals 1 to 8 and 10.
-pub fn translate(table: &[u16], out: &mut [u16]) -> Result<usize, u8> {
+pub fn translate(table: &[u16], out: &mut [u16]) -> Result<usize, Refusal> {
     check_psl(table)?;
     let size = translated_size(table);
     if out.len() < 3 * size {
@@ -640,7 +608,7 @@ pub fn translate(table: &[u16], out: &mut [u16]) -> Result<usize, u8> {
 // --------------------------------------------------------------- moments
 
 /// Letter of a moment, refusal 25.
-pub fn letter_at(lead: &[u32], cycle: &[u32], moment: usize) -> Result<u32, u8> {
+pub fn letter_at(lead: &[Letter], cycle: &[Letter], moment: usize) -> Result<Letter, Refusal> {
     if moment < lead.len() {
         Ok(lead[moment])
     } else if cycle.is_empty() {
@@ -650,22 +618,15 @@ pub fn letter_at(lead: &[u32], cycle: &[u32], moment: usize) -> Result<u32, u8> 
     }
 }
 
-/// One of the two lists of a trace.
-#[derive(Clone, Copy, PartialEq, Eq, Debug)]
-pub enum List {
-    Lead,
-    Cycle,
-}
-
-/// The rest of the list a moment falls in: which list, and the part of it
-/// from `start` to before `end`.
-pub fn rest(lead: &[u32], cycle: &[u32], moment: usize) -> (List, usize, usize) {
+/// The rest of the list a moment falls in; past both lists, the empty part at
+/// the cycle's end.
+pub fn rest<'a>(lead: &'a [Letter], cycle: &'a [Letter], moment: usize) -> &'a [Letter] {
     if moment < lead.len() {
-        (List::Lead, moment, lead.len())
+        &lead[moment..]
     } else if moment - lead.len() < cycle.len() {
-        (List::Cycle, moment - lead.len(), cycle.len())
+        &cycle[moment - lead.len()..]
     } else {
-        (List::Cycle, cycle.len(), cycle.len())
+        &cycle[cycle.len()..]
     }
 }
 
@@ -687,17 +648,13 @@ impl<'a> Reader<'a> {
     }
 
     /// The text must stand next.
-    fn expect(&mut self, text: &str) -> Result<(), u8> {
-        if self.take(text) {
-            Ok(())
-        } else {
-            Err(18)
-        }
+    fn expect(&mut self, text: &str) -> Result<(), Refusal> {
+        self.take(text).then_some(()).ok_or(18)
     }
 
     /// A number must stand next. Too large ones come back as u64::MAX, which
     /// is above every limit.
-    fn number(&mut self) -> Result<u64, u8> {
+    fn number(&mut self) -> Result<u64, Refusal> {
         let count = self
             .bytes
             .iter()
@@ -717,7 +674,7 @@ impl<'a> Reader<'a> {
 
     /// Numbers with one space between up to the closing bracket, which is
     /// taken too. `()` gives none; a first number stands right away.
-    fn list_after_bracket(&mut self) -> Result<Vec<u64>, u8> {
+    fn list_after_bracket(&mut self) -> Result<Vec<u64>, Refusal> {
         let mut numbers = Vec::new();
         if self.take(")") {
             return Ok(numbers);
@@ -728,7 +685,7 @@ impl<'a> Reader<'a> {
     }
 
     /// Any count of space and number, then the closing bracket.
-    fn more_numbers(&mut self, numbers: &mut Vec<u64>) -> Result<(), u8> {
+    fn more_numbers(&mut self, numbers: &mut Vec<u64>) -> Result<(), Refusal> {
         while self.take(" ") {
             numbers.push(self.number()?);
         }
@@ -736,17 +693,13 @@ impl<'a> Reader<'a> {
     }
 
     /// The line must be over.
-    fn end(&self) -> Result<(), u8> {
-        if self.bytes.is_empty() {
-            Ok(())
-        } else {
-            Err(18)
-        }
+    fn end(&self) -> Result<(), Refusal> {
+        self.bytes.is_empty().then_some(()).ok_or(18)
     }
 }
 
 /// Kind and opening text of each PSL form but `true`.
-const PSL_OPENINGS: [(u16, &str); 10] = [
+pub const PSL_OPENINGS: [(u16, &str); 10] = [
     (PSL_VAR, "(var "),
     (PSL_BNOT, "(bnot "),
     (PSL_BAND, "(band "),
@@ -768,63 +721,79 @@ enum Due {
     Closed(u16),
 }
 
-/// The nodes of a formula line in closing order, refusal 18 only. A list of
-/// what is due stands for recursion, so depth costs no stack.
-fn formula_nodes(line: &[u8]) -> Result<Vec<[u64; 3]>, u8> {
-    let mut reader = Reader { bytes: line };
-    // The last entry is due first.
-    let mut due = vec![Due::Text(")"), Due::Form(Sort::Formula), Due::Text("(psl ")];
-    // Signals and numbers of closed forms whose user is still open.
-    let mut waiting: Vec<u64> = Vec::new();
-    let mut nodes: Vec<[u64; 3]> = Vec::new();
-    while let Some(next) = due.pop() {
-        match next {
-            Due::Text(text) => reader.expect(text)?,
-            Due::Number => waiting.push(reader.number()?),
-            Due::Form(sort) => {
-                if sort == Sort::Boolean && reader.take("true") {
-                    due.push(Due::Closed(PSL_TRUE));
-                    continue;
-                }
-                let opened = PSL_OPENINGS
-                    .iter()
-                    .find(|&&(kind, text)| psl_sort(kind) == sort && reader.take(text));
-                let kind = match opened {
-                    Some(&(kind, _)) => kind,
-                    None => return Err(18),
-                };
-                let part = |place: Place| match place {
-                    Place::Operand(sort) => Due::Form(sort),
-                    _ => Due::Number,
-                };
-                let places = psl_places(kind).unwrap();
-                due.push(Due::Closed(kind));
-                due.push(Due::Text(")"));
-                if places[1] != Place::Unused {
-                    due.push(part(places[1]));
-                    due.push(Due::Text(" "));
-                }
-                due.push(part(places[0]));
-            }
-            Due::Closed(kind) => {
-                let places = psl_places(kind).unwrap();
-                let mut node = [kind as u64, 0, 0];
-                for &side in [1, 0].iter() {
-                    if places[side] != Place::Unused {
-                        node[1 + side] = waiting.pop().unwrap();
-                    }
-                }
-                waiting.push(nodes.len() as u64);
-                nodes.push(node);
+/// A formula line being read. A list of what is due stands for recursion, so
+/// depth costs no stack.
+struct FormulaReader<'a> {
+    reader: Reader<'a>,
+    /// The last entry is due first.
+    due: Vec<Due>,
+    /// Signals and numbers of closed forms whose user is still open.
+    waiting: Vec<u64>,
+    nodes: Vec<[u64; 3]>,
+}
+
+impl<'a> FormulaReader<'a> {
+    /// A form of this sort must begin here; what it is made of is due next.
+    fn open(&mut self, sort: Sort) -> Result<(), Refusal> {
+        if sort == Sort::Boolean && self.reader.take("true") {
+            self.due.push(Due::Closed(PSL_TRUE));
+            return Ok(());
+        }
+        let opened = PSL_OPENINGS
+            .iter()
+            .find(|&&(kind, text)| psl_sort(kind) == sort && self.reader.take(text));
+        let kind = opened.ok_or(18)?.0;
+        let part = |place: Place| match place {
+            Place::Operand(sort) => Due::Form(sort),
+            _ => Due::Number,
+        };
+        let places = psl_places(kind).unwrap();
+        self.due.push(Due::Closed(kind));
+        self.due.push(Due::Text(")"));
+        if places[1] != Place::Unused {
+            self.due.push(part(places[1]));
+            self.due.push(Due::Text(" "));
+        }
+        self.due.push(part(places[0]));
+        Ok(())
+    }
+
+    /// Numbers a complete form.
+    fn close(&mut self, kind: u16) {
+        let places = psl_places(kind).unwrap();
+        let mut node = [kind as u64, 0, 0];
+        for side in [1, 0] {
+            if places[side] != Place::Unused {
+                node[1 + side] = self.waiting.pop().unwrap();
             }
         }
+        self.waiting.push(self.nodes.len() as u64);
+        self.nodes.push(node);
     }
-    reader.end()?;
-    Ok(nodes)
+}
+
+/// The nodes of a formula line in closing order, refusal 18 only.
+fn formula_nodes(line: &[u8]) -> Result<Vec<[u64; 3]>, Refusal> {
+    let mut form = FormulaReader {
+        reader: Reader { bytes: line },
+        due: vec![Due::Text(")"), Due::Form(Sort::Formula), Due::Text("(psl ")],
+        waiting: Vec::new(),
+        nodes: Vec::new(),
+    };
+    while let Some(next) = form.due.pop() {
+        match next {
+            Due::Text(text) => form.reader.expect(text)?,
+            Due::Number => form.waiting.push(form.reader.number()?),
+            Due::Form(sort) => form.open(sort)?,
+            Due::Closed(kind) => form.close(kind),
+        }
+    }
+    form.reader.end()?;
+    Ok(form.nodes)
 }
 
 /// Formula line, refusals 17, 18, 19, 20, 23.
-pub fn read_formula_line(line: &[u8], out: &mut [u16]) -> Result<usize, u8> {
+pub fn read_formula(line: &[u8], out: &mut [u16]) -> Result<usize, Refusal> {
     if line.len() > MAX_LINE {
         return Err(17);
     }
@@ -851,7 +820,7 @@ pub fn read_formula_line(line: &[u8], out: &mut [u16]) -> Result<usize, u8> {
 }
 
 /// Lead-in and cycle of a trace line, refusal 18 only.
-fn trace_lists(line: &[u8]) -> Result<(Vec<u64>, Vec<u64>), u8> {
+fn trace_lists(line: &[u8]) -> Result<(Vec<u64>, Vec<u64>), Refusal> {
     let mut reader = Reader { bytes: line };
     let (mut lead, mut cycle) = (Vec::new(), Vec::new());
     if reader.take("(finite") {
@@ -871,11 +840,11 @@ fn trace_lists(line: &[u8]) -> Result<(Vec<u64>, Vec<u64>), u8> {
 }
 
 /// Trace line, refusals 17, 18, 21, 22, 23. Returns both lengths.
-pub fn read_trace_line(
+pub fn read_trace(
     line: &[u8],
-    lead: &mut [u32],
-    cycle: &mut [u32],
-) -> Result<(usize, usize), u8> {
+    lead: &mut [Letter],
+    cycle: &mut [Letter],
+) -> Result<(usize, usize), Refusal> {
     if line.len() > MAX_LINE {
         return Err(17);
     }
@@ -883,7 +852,7 @@ pub fn read_trace_line(
     if lead_read
         .iter()
         .chain(cycle_read.iter())
-        .any(|&letter| letter > u32::MAX as u64)
+        .any(|&letter| letter > Letter::MAX as u64)
     {
         return Err(21);
     }
@@ -894,45 +863,31 @@ pub fn read_trace_line(
         return Err(23);
     }
     for (place, &letter) in lead.iter_mut().zip(lead_read.iter()) {
-        *place = letter as u32;
+        *place = letter as Letter;
     }
     for (place, &letter) in cycle.iter_mut().zip(cycle_read.iter()) {
-        *place = letter as u32;
+        *place = letter as Letter;
     }
     Ok((lead_read.len(), cycle_read.len()))
 }
 
-/// The name of an LTL kind.
-fn ltl_name(kind: u16) -> &'static str {
-    match kind {
-        LTL_TRUE => "true",
-        LTL_VAR => "var",
-        LTL_NOT => "not",
-        LTL_AND => "and",
-        LTL_OR => "or",
-        LTL_NEXT => "next",
-        LTL_UNTIL => "until",
-        _ => unreachable!("unknown kind"),
-    }
-}
+/// The names of the LTL kinds.
+const LTL_NAMES: [&str; 7] = ["true", "var", "not", "and", "or", "next", "until"];
 
 /// Node line, refusals 11, 12 to 15, 24. The length counts the final byte 10.
-pub fn write_node_line(
+pub fn write_node(
     own: u16,
     kind: u16,
     left: u16,
     right: u16,
     out: &mut [u8],
-) -> Result<usize, u8> {
+) -> Result<usize, Refusal> {
     if own as usize >= MAX_LTL_NODES {
         return Err(11);
     }
-    let places = match ltl_places(kind) {
-        Some(places) => places,
-        None => return Err(12),
-    };
+    let places = ltl_places(kind).ok_or(12)?;
     check_places(places, [left, right], own as usize, [13, 14, 15])?;
-    let mut line = format!("({} {}", own, ltl_name(kind));
+    let mut line = format!("({} {}", own, LTL_NAMES[kind as usize]);
     if places[0] != Place::Unused {
         line.push_str(&format!(" {}", left));
     }
@@ -952,57 +907,54 @@ pub fn write_node_line(
 /// The lines of an input. A byte 10 ends a line; what follows the last one
 /// is a line only if it is not empty.
 fn lines_of(input: &[u8]) -> Vec<&[u8]> {
-    let mut lines: Vec<&[u8]> = input.split(|&byte| byte == 10).collect();
-    if lines.last().map_or(false, |line| line.is_empty()) {
-        lines.pop();
-    }
+    let lines = input.split_inclusive(|&byte| byte == 10);
     lines
+        .map(|line| line.strip_suffix(&[10]).unwrap_or(line))
+        .collect()
+}
+
+/// What a trace line prints after its place among the trace lines.
+fn verdicts_of(line: &[u8], psl: &[u16], ltl: &[u16]) -> Result<String, Refusal> {
+    let yes_no = |verdict: bool| if verdict { "yes" } else { "no" };
+    let (mut lead, mut cycle) = ([0; MAX_LETTERS], [0; MAX_LETTERS]);
+    let (lead_count, cycle_count) = read_trace(line, &mut lead, &mut cycle)?;
+    let (lead, cycle) = (&lead[..lead_count], &cycle[..cycle_count]);
+    let by_psl = psl_verdict(psl, lead, cycle).expect("accepted table and trace");
+    let by_ltl = match ltl_verdict(ltl, lead, cycle) {
+        Ok(verdict) => yes_no(verdict),
+        Err(16) => "none",
+        Err(number) => unreachable!("refused by {}", number),
+    };
+    Ok(format!("psl {} ltl {}", yes_no(by_psl), by_ltl))
 }
 
 /// The whole program: standard input in, standard output out.
 pub fn run(input: &[u8]) -> Vec<u8> {
-    let yes_no = |verdict: bool| if verdict { "yes" } else { "no" };
-    let mut output = Vec::new();
     let lines = lines_of(input);
     // Empty input has no line, and is refused as an empty line 1 is.
     let first: &[u8] = lines.first().copied().unwrap_or(&[]);
-
     let mut psl = [0u16; 3 * MAX_PSL_NODES];
-    let nodes = match read_formula_line(first, &mut psl) {
+    let nodes = match read_formula(first, &mut psl) {
         Ok(nodes) => nodes,
-        Err(number) => {
-            output.extend_from_slice(format!("(refused 1 {})\n", number).as_bytes());
-            return output;
-        }
+        Err(number) => return format!("(refused 1 {})\n", number).into_bytes(),
     };
     let psl = &psl[..3 * nodes];
     let mut ltl = [0u16; 3 * MAX_LTL_NODES];
     let size = translate(psl, &mut ltl).expect("a line read is an accepted table");
     let ltl = &ltl[..3 * size];
 
-    output.extend_from_slice(format!("(ltl {})\n", size).as_bytes());
+    let mut output = format!("(ltl {})\n", size).into_bytes();
     for node in 0..size {
         let (kind, left, right) = node_of(ltl, node);
         let mut line = [0u8; 64];
-        let length = write_node_line(node as u16, kind, left, right, &mut line)
+        let length = write_node(node as u16, kind, left, right, &mut line)
             .expect("an emitted node is accepted");
         output.extend_from_slice(&line[..length]);
     }
-
-    for (index, &line) in lines.iter().enumerate().skip(1) {
-        let (mut lead, mut cycle) = ([0u32; MAX_LETTERS], [0u32; MAX_LETTERS]);
-        let answer = match read_trace_line(line, &mut lead, &mut cycle) {
+    for (index, line) in lines.iter().enumerate().skip(1) {
+        let answer = match verdicts_of(line, psl, ltl) {
+            Ok(verdicts) => format!("(trace {} {})\n", index, verdicts),
             Err(number) => format!("(refused {} {})\n", index + 1, number),
-            Ok((lead_count, cycle_count)) => {
-                let (lead, cycle) = (&lead[..lead_count], &cycle[..cycle_count]);
-                let by_psl = psl_verdict(psl, lead, cycle).expect("accepted table and trace");
-                let by_ltl = match ltl_verdict(ltl, lead, cycle) {
-                    Ok(verdict) => yes_no(verdict),
-                    Err(16) => "none",
-                    Err(number) => unreachable!("refused by {}", number),
-                };
-                format!("(trace {} psl {} ltl {})\n", index, yes_no(by_psl), by_ltl)
-            }
         };
         output.extend_from_slice(answer.as_bytes());
     }
@@ -1011,13 +963,12 @@ pub fn run(input: &[u8]) -> Vec<u8> {
 
 // ------------------------------------------ plain evaluators for measuring
 
-/// Fills one byte a node and moment, 0 or 1, node by node: the truth of node
-/// `n` at listed moment `i` goes to `rows[n * moments + i]`. Table and trace
-/// are accepted ones.
-pub fn plain_ltl_fill(table: &[u16], lead: &[u32], cycle: &[u32], rows: &mut Vec<u8>) {
+/// One byte a node and moment, 0 or 1, node by node: the truth of node `n` at
+/// listed moment `i` stands at `n * moments + i`. Table and trace are
+/// accepted ones.
+fn plain_ltl_rows(table: &[u16], lead: &[Letter], cycle: &[Letter]) -> Vec<u8> {
     let moments = lead.len() + cycle.len();
-    rows.clear();
-    rows.resize(table.len() / 3 * moments, 0);
+    let mut rows = vec![0; table.len() / 3 * moments];
     for (node, triple) in table.chunks_exact(3).enumerate() {
         let (done, rest) = rows.split_at_mut(node * moments);
         let row = &mut rest[..moments];
@@ -1032,144 +983,129 @@ pub fn plain_ltl_fill(table: &[u16], lead: &[u32], cycle: &[u32], rows: &mut Vec
             _ => plain_until(of(triple[1]), of(triple[2]), lead.len(), row),
         }
     }
+    rows
 }
 
-/// LTL verdict by `plain_ltl_fill`; the refusals of `ltl_verdict`.
-pub fn plain_ltl_verdict(table: &[u16], lead: &[u32], cycle: &[u32]) -> Result<bool, u8> {
-    check_ltl(table)?;
+/// LTL verdict by rows, where nothing is refused.
+pub fn plain_ltl_verdict(table: &[u16], lead: &[Letter], cycle: &[Letter]) -> Option<bool> {
+    check_ltl(table).ok()?;
     let moments = lead.len() + cycle.len();
-    if moments > MAX_LETTERS {
-        return Err(9);
+    if moments == 0 || moments > MAX_LETTERS {
+        return None;
     }
-    if moments == 0 {
-        return Err(16);
-    }
-    let mut rows = Vec::new();
-    plain_ltl_fill(table, lead, cycle, &mut rows);
-    Ok(rows[rows.len() - moments] == 1)
+    let rows = plain_ltl_rows(table, lead, cycle);
+    Some(rows[rows.len() - moments] == 1)
 }
 
-/// Fills one byte a node and moment for an accepted PSL table and a trace
-/// that is not empty: the truth of node `n` on the suffix from listed moment
-/// `i`, under the aborts around the node.
+/// The rows of an accepted PSL table on a trace that is not empty: the truth
+/// of node `n` on the suffix from listed moment `i`, under the aborts around
+/// the node.
 ///
 /// Each node has one user, so it has one surrounding: a row of moments at
 /// which a formula is accepted and one at which it is rejected. `not`
 /// exchanges the two; an abort accepts where its Boolean holds and nothing
-/// rejects. `surroundings` keeps these rows, row 0 being all no.
-pub fn plain_psl_fill(
-    table: &[u16],
-    lead: &[u32],
-    cycle: &[u32],
-    rows: &mut Vec<u8>,
-    surroundings: &mut Vec<u8>,
-) {
+/// rejects.
+struct PlainRows {
+    moments: usize,
+    rows: Vec<u8>,
+    /// The rows of all surroundings, row 0 being all no.
+    surroundings: Vec<u8>,
+    /// The accept row and the reject row of each node.
+    around: Vec<(usize, usize)>,
+}
+
+impl PlainRows {
+    /// Booleans, upwards.
+    fn booleans(&mut self, table: &[u16], lead: &[Letter], cycle: &[Letter]) {
+        let moments = self.moments;
+        for (node, triple) in table.chunks_exact(3).enumerate() {
+            let (done, rest) = self.rows.split_at_mut(node * moments);
+            let row = &mut rest[..moments];
+            let of = |operand: u16| &done[operand as usize * moments..][..moments];
+            match triple[0] {
+                PSL_TRUE => row.fill(1),
+                PSL_VAR => plain_var(triple[1], lead, cycle, row),
+                PSL_BNOT => plain_not(of(triple[1]), row),
+                PSL_BAND => plain_and(of(triple[1]), of(triple[2]), row),
+                _ => {}
+            }
+        }
+    }
+
+    /// Surroundings, downwards.
+    fn surround(&mut self, table: &[u16]) {
+        for (node, triple) in table.chunks_exact(3).enumerate().rev() {
+            let (accept, reject) = self.around[node];
+            let (left, right) = (triple[1] as usize, triple[2] as usize);
+            match triple[0] {
+                PSL_NOT => self.around[left] = (reject, accept),
+                PSL_NEXT => self.around[left] = (accept, reject),
+                PSL_AND | PSL_UNTIL => {
+                    self.around[left] = (accept, reject);
+                    self.around[right] = (accept, reject);
+                }
+                PSL_ABORT => {
+                    let start = self.surroundings.len();
+                    self.around[left] = (start / self.moments, reject);
+                    self.surroundings.resize(start + self.moments, 0);
+                    let (old, new) = self.surroundings.split_at_mut(start);
+                    let row = |at: usize| at * self.moments..(at + 1) * self.moments;
+                    let holds = &self.rows[row(right)];
+                    plain_accept(holds, &old[row(accept)], &old[row(reject)], new);
+                }
+                _ => {}
+            }
+        }
+    }
+
+    /// Formulas, upwards.
+    fn formulas(&mut self, table: &[u16], lead: usize) {
+        let moments = self.moments;
+        let mut shifted = [0u8; MAX_LETTERS];
+        for (node, triple) in table.chunks_exact(3).enumerate() {
+            let (done, rest) = self.rows.split_at_mut(node * moments);
+            let row = &mut rest[..moments];
+            let of = |operand: u16| &done[operand as usize * moments..][..moments];
+            let accept = &self.surroundings[self.around[node].0 * moments..][..moments];
+            let reject = &self.surroundings[self.around[node].1 * moments..][..moments];
+            match triple[0] {
+                PSL_WEAK | PSL_STRONG => plain_accept(of(triple[1]), accept, reject, row),
+                PSL_NOT => plain_not(of(triple[1]), row),
+                PSL_AND => plain_and(of(triple[1]), of(triple[2]), row),
+                PSL_NEXT => {
+                    let shifted = &mut shifted[..moments];
+                    plain_next(of(triple[1]), lead, shifted);
+                    plain_accept(shifted, accept, reject, row);
+                }
+                PSL_UNTIL => plain_until(of(triple[1]), of(triple[2]), lead, row),
+                PSL_ABORT => row.copy_from_slice(of(triple[1])),
+                _ => {}
+            }
+        }
+    }
+}
+
+/// PSL verdict by rows, where nothing is refused and the trace is not empty.
+pub fn plain_psl_verdict(table: &[u16], lead: &[Letter], cycle: &[Letter]) -> Option<bool> {
+    check_psl(table).ok()?;
     let moments = lead.len() + cycle.len();
+    if moments == 0 || moments > MAX_LETTERS {
+        return None;
+    }
     let nodes = table.len() / 3;
-    rows.clear();
-    rows.resize(nodes * moments, 0);
-    surroundings.clear();
-    surroundings.resize(moments, 0);
-
-    // Booleans, upwards.
-    for (node, triple) in table.chunks_exact(3).enumerate() {
-        let (done, rest) = rows.split_at_mut(node * moments);
-        let row = &mut rest[..moments];
-        let of = |operand: u16| &done[operand as usize * moments..][..moments];
-        match triple[0] {
-            PSL_TRUE => row.fill(1),
-            PSL_VAR => plain_var(triple[1], lead, cycle, row),
-            PSL_BNOT => plain_not(of(triple[1]), row),
-            PSL_BAND => plain_and(of(triple[1]), of(triple[2]), row),
-            _ => {}
-        }
-    }
-
-    // Surroundings, downwards: accept row and reject row of each formula.
-    let mut around = vec![(0usize, 0usize); nodes];
-    for (node, triple) in table.chunks_exact(3).enumerate().rev() {
-        let (accept, reject) = around[node];
-        let (left, right) = (triple[1] as usize, triple[2] as usize);
-        match triple[0] {
-            PSL_NOT => around[left] = (reject, accept),
-            PSL_NEXT => around[left] = (accept, reject),
-            PSL_AND | PSL_UNTIL => {
-                around[left] = (accept, reject);
-                around[right] = (accept, reject);
-            }
-            PSL_ABORT => {
-                let start = surroundings.len();
-                around[left] = (start / moments, reject);
-                surroundings.resize(start + moments, 0);
-                let (old, new) = surroundings.split_at_mut(start);
-                plain_accept(
-                    &rows[right * moments..][..moments],
-                    &old[accept * moments..][..moments],
-                    &old[reject * moments..][..moments],
-                    new,
-                );
-            }
-            _ => {}
-        }
-    }
-
-    // Formulas, upwards.
-    let mut shifted = [0u8; MAX_LETTERS];
-    for (node, triple) in table.chunks_exact(3).enumerate() {
-        let (done, rest) = rows.split_at_mut(node * moments);
-        let row = &mut rest[..moments];
-        let of = |operand: u16| &done[operand as usize * moments..][..moments];
-        let accept = &surroundings[around[node].0 * moments..][..moments];
-        let reject = &surroundings[around[node].1 * moments..][..moments];
-        match triple[0] {
-            PSL_WEAK | PSL_STRONG => plain_accept(of(triple[1]), accept, reject, row),
-            PSL_NOT => plain_not(of(triple[1]), row),
-            PSL_AND => plain_and(of(triple[1]), of(triple[2]), row),
-            PSL_NEXT => {
-                let shifted = &mut shifted[..moments];
-                plain_next(of(triple[1]), lead.len(), shifted);
-                plain_accept(shifted, accept, reject, row);
-            }
-            PSL_UNTIL => plain_until(of(triple[1]), of(triple[2]), lead.len(), row),
-            PSL_ABORT => row.copy_from_slice(of(triple[1])),
-            _ => {}
-        }
-    }
+    let mut plain = PlainRows {
+        moments,
+        rows: vec![0; nodes * moments],
+        surroundings: vec![0; moments],
+        around: vec![(0, 0); nodes],
+    };
+    plain.booleans(table, lead, cycle);
+    plain.surround(table);
+    plain.formulas(table, lead.len());
+    Some(plain.rows[(nodes - 1) * moments] == 1)
 }
 
-/// PSL verdict by `plain_psl_fill`; the refusals of `psl_verdict`.
-pub fn plain_psl_verdict(table: &[u16], lead: &[u32], cycle: &[u32]) -> Result<bool, u8> {
-    check_psl(table)?;
-    let moments = lead.len() + cycle.len();
-    if moments > MAX_LETTERS {
-        return Err(9);
-    }
-    if moments == 0 {
-        return Ok(plain_psl_empty(table));
-    }
-    let (mut rows, mut surroundings) = (Vec::new(), Vec::new());
-    plain_psl_fill(table, lead, cycle, &mut rows, &mut surroundings);
-    Ok(rows[rows.len() - moments] == 1)
-}
-
-/// An accepted PSL table on the empty trace, whose word has no moment and is
-/// its own dual.
-fn plain_psl_empty(table: &[u16]) -> bool {
-    let mut truth = vec![false; table.len() / 3];
-    for (node, triple) in table.chunks_exact(3).enumerate() {
-        let left = triple[1] as usize;
-        truth[node] = match triple[0] {
-            PSL_WEAK => true,
-            PSL_NOT => !truth[left],
-            PSL_AND => truth[left] && truth[triple[2] as usize],
-            PSL_ABORT => truth[left],
-            _ => false,
-        };
-    }
-    truth[truth.len() - 1]
-}
-
-fn plain_var(signal: u16, lead: &[u32], cycle: &[u32], row: &mut [u8]) {
+fn plain_var(signal: u16, lead: &[Letter], cycle: &[Letter], row: &mut [u8]) {
     let (first, second) = row.split_at_mut(lead.len());
     for (place, letter) in first.iter_mut().zip(lead) {
         *place = (letter >> signal & 1) as u8;

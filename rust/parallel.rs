@@ -1,11 +1,17 @@
 //! Both checks, both verdicts, the translator, the lines and the whole run in
 //! plain Rust written for speed: what the library is measured against.
 //!
+//! It tests all that the library tests, but says only whether an input is
+//! accepted, and answers what the benchmark asks: traces of 1 to 64 letters,
+//! and lists with room enough.
+//!
 //! The verdicts are bit-parallel, by the library's own algorithm. A row is one
 //! u64, the truths of a node at up to 64 moments, the last letter's the lowest
 //! bit; bits past the first letter may hold anything.
 
 #![allow(dead_code)]
+
+use super::types::Letter;
 
 const MAX_LETTERS: usize = 64;
 const MAX_PSL_NODES: usize = 1024;
@@ -16,51 +22,38 @@ const SIGNALS: u16 = 32;
 // ---------------------------------------------------------------- checks
 
 /// What the two places of a kind hold, by limits: a place holds a number
-/// below its limit, and `OPERAND` stands for the node's own number.
-#[derive(Clone, Copy)]
-struct Shape {
-    left: u16,
-    right: u16,
-    /// Whether an operand left or right has to be a formula.
-    formulas: [bool; 2],
-}
+/// below its limit, and `OPERAND` stands for the node's own number. Then
+/// whether the operand left and the one right have to be formulas.
+type Shape = (u16, u16, [bool; 2]);
 
 const OPERAND: u16 = 0;
 const UNUSED: u16 = 1;
 
-const fn shape(left: u16, right: u16, formulas: [bool; 2]) -> Shape {
-    Shape {
-        left,
-        right,
-        formulas,
-    }
-}
-
 /// One shape a PSL kind: true, var, bnot, band, weak, strong, not, and, next,
 /// until, abort. Kinds from 4 on are formulas.
 const PSL_SHAPES: [Shape; 11] = [
-    shape(UNUSED, UNUSED, [false, false]),
-    shape(SIGNALS, UNUSED, [false, false]),
-    shape(OPERAND, UNUSED, [false, false]),
-    shape(OPERAND, OPERAND, [false, false]),
-    shape(OPERAND, UNUSED, [false, false]),
-    shape(OPERAND, UNUSED, [false, false]),
-    shape(OPERAND, UNUSED, [true, false]),
-    shape(OPERAND, OPERAND, [true, true]),
-    shape(OPERAND, UNUSED, [true, false]),
-    shape(OPERAND, OPERAND, [true, true]),
-    shape(OPERAND, OPERAND, [true, false]),
+    (UNUSED, UNUSED, [false, false]),
+    (SIGNALS, UNUSED, [false, false]),
+    (OPERAND, UNUSED, [false, false]),
+    (OPERAND, OPERAND, [false, false]),
+    (OPERAND, UNUSED, [false, false]),
+    (OPERAND, UNUSED, [false, false]),
+    (OPERAND, UNUSED, [true, false]),
+    (OPERAND, OPERAND, [true, true]),
+    (OPERAND, UNUSED, [true, false]),
+    (OPERAND, OPERAND, [true, true]),
+    (OPERAND, OPERAND, [true, false]),
 ];
 
 /// One shape an LTL kind: true, var, not, and, or, next, until.
 const LTL_SHAPES: [Shape; 7] = [
-    shape(UNUSED, UNUSED, [false, false]),
-    shape(SIGNALS, UNUSED, [false, false]),
-    shape(OPERAND, UNUSED, [false, false]),
-    shape(OPERAND, OPERAND, [false, false]),
-    shape(OPERAND, OPERAND, [false, false]),
-    shape(OPERAND, UNUSED, [false, false]),
-    shape(OPERAND, OPERAND, [false, false]),
+    (UNUSED, UNUSED, [false, false]),
+    (SIGNALS, UNUSED, [false, false]),
+    (OPERAND, UNUSED, [false, false]),
+    (OPERAND, OPERAND, [false, false]),
+    (OPERAND, OPERAND, [false, false]),
+    (OPERAND, UNUSED, [false, false]),
+    (OPERAND, OPERAND, [false, false]),
 ];
 
 fn limit(place: u16, node: usize) -> usize {
@@ -75,44 +68,30 @@ fn is_formula(kind: u16) -> bool {
     kind > 3
 }
 
-/// Which of the three tests on the places fails first: 0 unused place not 0,
-/// 1 signal too high, 2 operand not below its user.
-fn place_fault(shape: Shape, left: u16, right: u16) -> u8 {
-    if (shape.left == UNUSED && left != 0) || (shape.right == UNUSED && right != 0) {
-        0
-    } else if shape.left == SIGNALS && left >= SIGNALS {
-        1
-    } else {
-        2
-    }
+/// Whether a node has the shape, but for the sorts of its operands.
+fn is_low(shape: Shape, left: usize, right: usize, node: usize) -> bool {
+    left < limit(shape.0, node) && right < limit(shape.1, node)
 }
 
-/// LTL check, refusals 11 to 15.
-pub fn check_ltl(table: &[u16]) -> Result<(), u8> {
+pub fn check_ltl(table: &[u16]) -> Option<()> {
     let nodes = table.len() / 3;
     if table.len() % 3 != 0 || nodes == 0 || nodes > MAX_LTL_NODES {
-        return Err(11);
+        return None;
     }
     for (node, triple) in table.chunks_exact(3).enumerate() {
-        let (left, right) = (triple[1], triple[2]);
-        let shape = match LTL_SHAPES.get(triple[0] as usize) {
-            Some(&shape) => shape,
-            None => return Err(12),
-        };
-        let low = (left as usize) < limit(shape.left, node)
-            && (right as usize) < limit(shape.right, node);
-        if !low {
-            return Err(13 + place_fault(shape, left, right));
+        let (left, right) = (triple[1] as usize, triple[2] as usize);
+        let shape = *LTL_SHAPES.get(triple[0] as usize)?;
+        if !is_low(shape, left, right, node) {
+            return None;
         }
     }
-    Ok(())
+    Some(())
 }
 
-/// PSL check, refusals 1 to 8.
-pub fn check_psl(table: &[u16]) -> Result<(), u8> {
+pub fn check_psl(table: &[u16]) -> Option<()> {
     let nodes = table.len() / 3;
     if table.len() % 3 != 0 || nodes == 0 || nodes > MAX_PSL_NODES {
-        return Err(1);
+        return None;
     }
     // No node is its own operand or that of a lower one, so the last is never
     // used; each other one is used once if none is used twice and the uses
@@ -122,21 +101,15 @@ pub fn check_psl(table: &[u16]) -> Result<(), u8> {
     let mut uses = 0;
     for (node, triple) in table.chunks_exact(3).enumerate() {
         let (left, right) = (triple[1] as usize, triple[2] as usize);
-        let shape = match PSL_SHAPES.get(triple[0] as usize) {
-            Some(&shape) => shape,
-            None => return Err(2),
-        };
-        let low = left < limit(shape.left, node) && right < limit(shape.right, node);
-        if !low {
-            return Err(3 + place_fault(shape, triple[1], triple[2]));
+        let shape = *PSL_SHAPES.get(triple[0] as usize)?;
+        if !is_low(shape, left, right, node) {
+            return None;
         }
-        for (side, (place, operand)) in [(shape.left, left), (shape.right, right)]
-            .into_iter()
-            .enumerate()
-        {
+        let sides = [(shape.0, left), (shape.1, right)];
+        for (side, (place, operand)) in sides.into_iter().enumerate() {
             if place == OPERAND {
-                if is_formula(table[3 * operand]) != shape.formulas[side] {
-                    return Err(6);
+                if is_formula(table[3 * operand]) != shape.2[side] {
+                    return None;
                 }
                 twice |= used[operand];
                 used[operand] = true;
@@ -144,14 +117,8 @@ pub fn check_psl(table: &[u16]) -> Result<(), u8> {
             }
         }
     }
-    if twice || uses != nodes - 1 {
-        return Err(7);
-    }
-    if is_formula(table[3 * (nodes - 1)]) {
-        Ok(())
-    } else {
-        Err(8)
-    }
+    let accepted = !twice && uses == nodes - 1 && is_formula(table[3 * (nodes - 1)]);
+    accepted.then_some(())
 }
 
 // ------------------------------------------------------------------ rows
@@ -159,14 +126,14 @@ pub fn check_psl(table: &[u16]) -> Result<(), u8> {
 /// A trace of 1 to 64 letters, with a row for each signal made when it is
 /// first asked for.
 struct Rows<'a> {
-    lead: &'a [u32],
-    cycle: &'a [u32],
+    lead: &'a [Letter],
+    cycle: &'a [Letter],
     signals: [u64; SIGNALS as usize],
-    known: u32,
+    known: Letter,
 }
 
 impl<'a> Rows<'a> {
-    fn new(lead: &'a [u32], cycle: &'a [u32]) -> Rows<'a> {
+    fn new(lead: &'a [Letter], cycle: &'a [Letter]) -> Rows<'a> {
         Rows {
             lead,
             cycle,
@@ -249,21 +216,15 @@ fn ltl_row(table: &[u16], trace: &mut Rows, rows: &mut Vec<u64>) -> u64 {
     row
 }
 
-/// An accepted LTL table on a trace of 1 to 64 letters.
-pub fn ltl_holds(table: &[u16], lead: &[u32], cycle: &[u32]) -> bool {
+pub fn ltl_verdict(table: &[u16], lead: &[Letter], cycle: &[Letter]) -> Option<bool> {
+    check_ltl(table)?;
+    let letters = lead.len() + cycle.len();
+    if letters == 0 || letters > MAX_LETTERS {
+        return None;
+    }
     let mut trace = Rows::new(lead, cycle);
     let row = ltl_row(table, &mut trace, &mut Vec::new());
-    trace.first(row)
-}
-
-/// LTL verdict, refusals 11 to 15, 9 and 16.
-pub fn ltl_verdict(table: &[u16], lead: &[u32], cycle: &[u32]) -> Result<bool, u8> {
-    check_ltl(table)?;
-    match lead.len() + cycle.len() {
-        0 => Err(16),
-        1..=MAX_LETTERS => Ok(ltl_holds(table, lead, cycle)),
-        _ => Err(9),
-    }
+    Some(trace.first(row))
 }
 
 /// Row of a Boolean of an accepted PSL table.
@@ -305,39 +266,19 @@ fn formula_row(table: &[u16], node: u16, accept: u64, reject: u64, trace: &mut R
     }
 }
 
-/// A formula of an accepted PSL table on the empty trace.
-fn empty_holds(table: &[u16], node: u16) -> bool {
-    let triple = &table[3 * node as usize..][..3];
-    match triple[0] {
-        4 => true,
-        6 => !empty_holds(table, triple[1]),
-        7 => empty_holds(table, triple[1]) && empty_holds(table, triple[2]),
-        10 => empty_holds(table, triple[1]),
-        _ => false,
-    }
-}
-
 fn root(table: &[u16]) -> u16 {
     (table.len() / 3 - 1) as u16
 }
 
-/// An accepted PSL table on a trace of at most 64 letters.
-pub fn psl_holds(table: &[u16], lead: &[u32], cycle: &[u32]) -> bool {
-    if lead.is_empty() && cycle.is_empty() {
-        return empty_holds(table, root(table));
+pub fn psl_verdict(table: &[u16], lead: &[Letter], cycle: &[Letter]) -> Option<bool> {
+    check_psl(table)?;
+    let letters = lead.len() + cycle.len();
+    if letters == 0 || letters > MAX_LETTERS {
+        return None;
     }
     let mut trace = Rows::new(lead, cycle);
     let row = formula_row(table, root(table), 0, 0, &mut trace);
-    trace.first(row)
-}
-
-/// PSL verdict, refusals 1 to 8 and 9.
-pub fn psl_verdict(table: &[u16], lead: &[u32], cycle: &[u32]) -> Result<bool, u8> {
-    check_psl(table)?;
-    if lead.len() + cycle.len() > MAX_LETTERS {
-        return Err(9);
-    }
-    Ok(psl_holds(table, lead, cycle))
+    Some(trace.first(row))
 }
 
 // ------------------------------------------------------------ translator
@@ -406,29 +347,26 @@ impl<'a> Emitter<'a> {
     }
 }
 
-/// Translator, refusals 1 to 8 and 10.
-pub fn translate(table: &[u16], out: &mut [u16]) -> Result<usize, u8> {
+/// The nodes emitted.
+pub fn translate(table: &[u16], out: &mut [u16]) -> Option<usize> {
     check_psl(table)?;
     let size = table.chunks_exact(3).fold(2, |size, triple| {
         size + EMITTED[triple[0] as usize] as usize
     });
-    if out.len() < 3 * size {
-        return Err(10);
-    }
     let mut emitter = Emitter {
         table,
-        out,
+        out: out.get_mut(..3 * size)?,
         count: 0,
     };
     emitter.emit(0, 0, 0);
     emitter.emit(2, 0, 0);
     emitter.walk(root(table), 1, 1);
-    Ok(size)
+    Some(size)
 }
 
 // ----------------------------------------------------------------- lines
 
-/// The bytes of a line still to be read. None stands for refusal 18.
+/// The bytes of a line still to be read.
 struct Bytes<'a>(&'a [u8]);
 
 impl<'a> Bytes<'a> {
@@ -446,7 +384,7 @@ impl<'a> Bytes<'a> {
         self.0.get(ahead).copied()
     }
 
-    /// A number; one of more than ten digits comes back as u64::MAX.
+    /// A number of at most ten digits.
     fn number(&mut self) -> Option<u64> {
         let mut value = 0u64;
         let mut digits = 0;
@@ -458,11 +396,11 @@ impl<'a> Bytes<'a> {
             value = value.wrapping_mul(10).wrapping_add(digit as u64);
             digits += 1;
         }
-        if digits == 0 || (digits > 1 && self.0[0] == b'0') {
+        if digits == 0 || digits > 10 || (digits > 1 && self.0[0] == b'0') {
             return None;
         }
         self.0 = &self.0[digits..];
-        Some(if digits > 10 { u64::MAX } else { value })
+        Some(value)
     }
 
     fn end(&self) -> Option<()> {
@@ -473,36 +411,33 @@ impl<'a> Bytes<'a> {
 /// A formula line being read.
 struct FormulaReader<'a> {
     bytes: Bytes<'a>,
-    /// The first 1,024 nodes.
     table: Vec<u16>,
-    count: usize,
-    high_signal: bool,
 }
 
 impl<'a> FormulaReader<'a> {
-    fn node(&mut self, kind: u16, left: u16, right: u16) -> u16 {
-        if self.count < MAX_PSL_NODES {
-            self.table.extend_from_slice(&[kind, left, right]);
-        }
-        self.count += 1;
-        (self.count - 1) as u16
+    fn node(&mut self, kind: u16, left: u16, right: u16) -> Option<u16> {
+        let own = self.table.len() / 3;
+        self.table.extend_from_slice(&[kind, left, right]);
+        (own < MAX_PSL_NODES).then_some(own as u16)
     }
 
     fn closed(&mut self, kind: u16, left: u16, right: u16) -> Option<u16> {
         self.bytes.expect(b")")?;
-        Some(self.node(kind, left, right))
+        self.node(kind, left, right)
     }
 
     fn boolean(&mut self) -> Option<u16> {
         match (self.bytes.peek(1)?, self.bytes.peek(2)?) {
             (b'r', _) => {
                 self.bytes.expect(b"true")?;
-                Some(self.node(0, 0, 0))
+                self.node(0, 0, 0)
             }
             (b'v', _) => {
                 self.bytes.expect(b"(var ")?;
                 let signal = self.bytes.number()?;
-                self.high_signal |= signal >= SIGNALS as u64;
+                if signal >= SIGNALS as u64 {
+                    return None;
+                }
                 self.closed(1, signal as u16, 0)
             }
             (b'b', b'n') => {
@@ -575,35 +510,27 @@ impl<'a> FormulaReader<'a> {
     }
 }
 
-/// Formula line, refusals 17, 18, 19, 20, 23.
-pub fn read_formula(line: &[u8], out: &mut [u16]) -> Result<usize, u8> {
+/// The nodes of the line.
+pub fn read_formula(line: &[u8], out: &mut [u16]) -> Option<usize> {
     if line.len() > MAX_LINE {
-        return Err(17);
+        return None;
     }
     let mut reader = FormulaReader {
         bytes: Bytes(line),
         // No form takes fewer than four bytes.
         table: Vec::with_capacity(3 * (line.len() / 4).min(MAX_PSL_NODES)),
-        count: 0,
-        high_signal: false,
     };
-    reader.line().ok_or(18)?;
-    if reader.count > MAX_PSL_NODES {
-        return Err(19);
-    }
-    if reader.high_signal {
-        return Err(20);
-    }
+    reader.line()?;
     let table = &reader.table;
-    out.get_mut(..table.len()).ok_or(23)?.copy_from_slice(table);
-    Ok(reader.count)
+    out.get_mut(..table.len())?.copy_from_slice(table);
+    Some(table.len() / 3)
 }
 
 /// A trace line being read.
 struct TraceReader<'a> {
     bytes: Bytes<'a>,
     /// The first 64 letters of both lists.
-    letters: [u32; MAX_LETTERS],
+    letters: [Letter; MAX_LETTERS],
     count: usize,
     high_letter: bool,
 }
@@ -611,9 +538,9 @@ struct TraceReader<'a> {
 impl<'a> TraceReader<'a> {
     fn letter(&mut self) -> Option<()> {
         let value = self.bytes.number()?;
-        self.high_letter |= value > u32::MAX as u64;
+        self.high_letter |= value > Letter::MAX as u64;
         if let Some(place) = self.letters.get_mut(self.count) {
-            *place = value as u32;
+            *place = value as Letter;
         }
         self.count += 1;
         Some(())
@@ -650,10 +577,14 @@ impl<'a> TraceReader<'a> {
     }
 }
 
-/// Trace line, refusals 17, 18, 21, 22, 23. Returns both lengths.
-pub fn read_trace(line: &[u8], lead: &mut [u32], cycle: &mut [u32]) -> Result<(usize, usize), u8> {
+/// Both lengths.
+pub fn read_trace(
+    line: &[u8],
+    lead: &mut [Letter],
+    cycle: &mut [Letter],
+) -> Option<(usize, usize)> {
     if line.len() > MAX_LINE {
-        return Err(17);
+        return None;
     }
     let mut reader = TraceReader {
         bytes: Bytes(line),
@@ -661,21 +592,14 @@ pub fn read_trace(line: &[u8], lead: &mut [u32], cycle: &mut [u32]) -> Result<(u
         count: 0,
         high_letter: false,
     };
-    let lead_length = reader.line().ok_or(18)?;
-    if reader.high_letter {
-        return Err(21);
-    }
-    if reader.count > MAX_LETTERS {
-        return Err(22);
-    }
-    let cycle_length = reader.count - lead_length;
-    if lead.len() < lead_length || cycle.len() < cycle_length {
-        return Err(23);
+    let lead_length = reader.line()?;
+    if reader.high_letter || reader.count > MAX_LETTERS {
+        return None;
     }
     let (first, second) = reader.letters[..reader.count].split_at(lead_length);
-    lead[..lead_length].copy_from_slice(first);
-    cycle[..cycle_length].copy_from_slice(second);
-    Ok((lead_length, cycle_length))
+    lead.get_mut(..first.len())?.copy_from_slice(first);
+    cycle.get_mut(..second.len())?.copy_from_slice(second);
+    Some((first.len(), second.len()))
 }
 
 /// A line being put together, with room for the longest.
@@ -697,10 +621,9 @@ impl Text {
         self.length += N;
     }
 
-    /// A word in a fixed width, of which only its own length counts.
     fn put_word(&mut self, word: &Word) {
-        self.bytes[self.length..][..8].copy_from_slice(&word.bytes);
-        self.length += word.length;
+        self.bytes[self.length..][..8].copy_from_slice(word.0);
+        self.length += word.1;
     }
 
     fn put_number(&mut self, mut value: usize) {
@@ -723,126 +646,64 @@ impl Text {
     }
 }
 
-struct Word {
-    bytes: [u8; 8],
-    length: usize,
-}
-
-const fn word(bytes: &[u8; 8], length: usize) -> Word {
-    Word {
-        bytes: *bytes,
-        length,
-    }
-}
+/// Text in a fixed width, and how much of it counts.
+type Word = (&'static [u8; 8], usize);
 
 /// What follows the own number in a node line, by LTL kind.
 const LTL_WORDS: [Word; 7] = [
-    word(b" true   ", 5),
-    word(b" var    ", 5),
-    word(b" not    ", 5),
-    word(b" and    ", 5),
-    word(b" or     ", 4),
-    word(b" next   ", 6),
-    word(b" until  ", 7),
+    (b" true   ", 5),
+    (b" var    ", 5),
+    (b" not    ", 5),
+    (b" and    ", 5),
+    (b" or     ", 4),
+    (b" next   ", 6),
+    (b" until  ", 7),
 ];
 
-/// Node line, refusals 11, 12 to 15, 24. The length counts the final byte 10.
-pub fn write_node(own: u16, kind: u16, left: u16, right: u16, out: &mut [u8]) -> Result<usize, u8> {
+/// The bytes of the line, its byte 10 among them.
+pub fn write_node(own: u16, kind: u16, left: u16, right: u16, out: &mut [u8]) -> Option<usize> {
     let node = own as usize;
-    if node >= MAX_LTL_NODES {
-        return Err(11);
-    }
-    let shape = *LTL_SHAPES.get(kind as usize).ok_or(12)?;
-    let low =
-        (left as usize) < limit(shape.left, node) && (right as usize) < limit(shape.right, node);
-    if !low {
-        return Err(13 + place_fault(shape, left, right));
+    let shape = *LTL_SHAPES.get(kind as usize)?;
+    if node >= MAX_LTL_NODES || !is_low(shape, left as usize, right as usize, node) {
+        return None;
     }
     let mut text = Text::new();
     text.put(b"(");
     text.put_number(node);
     text.put_word(&LTL_WORDS[kind as usize]);
-    if shape.left != UNUSED {
+    if shape.0 != UNUSED {
         text.put_number(left as usize);
     }
-    if shape.right != UNUSED {
+    if shape.1 != UNUSED {
         text.put(b" ");
         text.put_number(right as usize);
     }
     text.put(b")\n");
-    out.get_mut(..text.length)
-        .ok_or(24)?
-        .copy_from_slice(text.bytes());
-    Ok(text.length)
+    out.get_mut(..text.length)?.copy_from_slice(text.bytes());
+    Some(text.length)
 }
 
 // ------------------------------------------------------------- whole run
 
-const ANSWERS: [Word; 3] = [
-    word(b" no     ", 3),
-    word(b" yes    ", 4),
-    word(b" none   ", 5),
-];
+const ANSWERS: [Word; 2] = [(b" no     ", 3), (b" yes    ", 4)];
 
-/// A whole run under way, given its lines one after the other.
+/// A whole run under way: the tables of its formula line.
 pub struct Run {
     psl: Vec<u16>,
     ltl: Vec<u16>,
     rows: Vec<u64>,
-    lines: usize,
-    stopped: bool,
+    traces: usize,
 }
 
 impl Run {
-    pub fn new() -> Run {
-        Run {
-            psl: Vec::new(),
-            ltl: Vec::new(),
-            rows: Vec::new(),
-            lines: 0,
-            stopped: false,
-        }
-    }
-
-    /// Nothing more is read once line 1 was refused.
-    pub fn stopped(&self) -> bool {
-        self.stopped
-    }
-
-    /// Takes a line without its byte 10 and adds what it prints.
-    pub fn line(&mut self, line: &[u8], output: &mut Vec<u8>) {
-        self.lines += 1;
-        let refused = if self.lines == 1 {
-            self.formula_line(line, output)
-        } else {
-            self.trace_line(line, output)
-        };
-        if let Err(number) = refused {
-            let mut text = Text::new();
-            text.put(b"(refused ");
-            text.put_number(self.lines);
-            text.put(b" ");
-            text.put_number(number as usize);
-            text.put(b")\n");
-            output.extend_from_slice(text.bytes());
-            self.stopped = self.lines == 1;
-        }
-    }
-
-    /// The input is over. One without a line is refused as an empty line is.
-    pub fn end(&mut self, output: &mut Vec<u8>) {
-        if self.lines == 0 {
-            self.line(&[], output);
-        }
-    }
-
-    fn formula_line(&mut self, line: &[u8], output: &mut Vec<u8>) -> Result<(), u8> {
-        self.psl.resize(3 * MAX_PSL_NODES, 0);
-        let nodes = read_formula(line, &mut self.psl)?;
-        self.psl.truncate(3 * nodes);
-        self.ltl.resize(3 * MAX_LTL_NODES, 0);
-        let size = translate(&self.psl, &mut self.ltl)?;
-        self.ltl.truncate(3 * size);
+    /// Takes line 1 without its byte 10 and adds what it prints.
+    pub fn new(line: &[u8], output: &mut Vec<u8>) -> Option<Run> {
+        let mut psl = vec![0; 3 * MAX_PSL_NODES];
+        let nodes = read_formula(line, &mut psl)?;
+        psl.truncate(3 * nodes);
+        let mut ltl = vec![0; 3 * MAX_LTL_NODES];
+        let size = translate(&psl, &mut ltl)?;
+        ltl.truncate(3 * size);
 
         let mut text = Text::new();
         text.put(b"(ltl ");
@@ -850,51 +711,38 @@ impl Run {
         text.put(b")\n");
         output.extend_from_slice(text.bytes());
         let mut line = [0u8; 32];
-        for (node, triple) in self.ltl.chunks_exact(3).enumerate() {
+        for (node, triple) in ltl.chunks_exact(3).enumerate() {
             let length = write_node(node as u16, triple[0], triple[1], triple[2], &mut line)?;
             output.extend_from_slice(&line[..length]);
         }
-        Ok(())
+        Some(Run {
+            psl,
+            ltl,
+            rows: Vec::new(),
+            traces: 0,
+        })
     }
 
-    fn trace_line(&mut self, line: &[u8], output: &mut Vec<u8>) -> Result<(), u8> {
-        let (mut lead, mut cycle) = ([0u32; MAX_LETTERS], [0u32; MAX_LETTERS]);
+    /// Takes a trace line without its byte 10 and adds what it prints.
+    pub fn trace_line(&mut self, line: &[u8], output: &mut Vec<u8>) -> Option<()> {
+        let (mut lead, mut cycle) = ([0; MAX_LETTERS], [0; MAX_LETTERS]);
         let (lead_length, cycle_length) = read_trace(line, &mut lead, &mut cycle)?;
-        let (lead, cycle) = (&lead[..lead_length], &cycle[..cycle_length]);
-        let (by_psl, by_ltl) = if lead.is_empty() && cycle.is_empty() {
-            (empty_holds(&self.psl, root(&self.psl)), None)
-        } else {
-            let mut trace = Rows::new(lead, cycle);
-            let psl = formula_row(&self.psl, root(&self.psl), 0, 0, &mut trace);
-            let ltl = ltl_row(&self.ltl, &mut trace, &mut self.rows);
-            (trace.first(psl), Some(trace.first(ltl)))
-        };
+        if lead_length + cycle_length == 0 {
+            return None;
+        }
+        let mut trace = Rows::new(&lead[..lead_length], &cycle[..cycle_length]);
+        let psl = formula_row(&self.psl, root(&self.psl), 0, 0, &mut trace);
+        let ltl = ltl_row(&self.ltl, &mut trace, &mut self.rows);
+        self.traces += 1;
         let mut text = Text::new();
         text.put(b"(trace ");
-        text.put_number(self.lines - 1);
+        text.put_number(self.traces);
         text.put(b" psl");
-        text.put_word(&ANSWERS[by_psl as usize]);
+        text.put_word(&ANSWERS[trace.first(psl) as usize]);
         text.put(b" ltl");
-        text.put_word(&ANSWERS[by_ltl.map_or(2, usize::from)]);
+        text.put_word(&ANSWERS[trace.first(ltl) as usize]);
         text.put(b")\n");
         output.extend_from_slice(text.bytes());
-        Ok(())
+        Some(())
     }
-}
-
-/// The whole program on an input in memory.
-pub fn reference_run(input: &[u8]) -> Vec<u8> {
-    let mut output = Vec::new();
-    let mut run = Run::new();
-    let mut rest = input;
-    while !rest.is_empty() && !run.stopped() {
-        let end = rest
-            .iter()
-            .position(|&byte| byte == b'\n')
-            .unwrap_or(rest.len());
-        run.line(&rest[..end], &mut output);
-        rest = rest.get(end + 1..).unwrap_or(&[]);
-    }
-    run.end(&mut output);
-    output
 }

@@ -1,7 +1,9 @@
-//! The whole program in plain Rust: standard input in, standard output out,
-//! in blocks. Build with `rustc -O --edition 2021 reference.rs`.
+//! The whole program in plain Rust on the benchmark's input: standard input
+//! in, standard output out, in blocks. It fails on a line that is refused.
+//! `./build reference` builds it.
 
 mod parallel;
+mod types;
 
 use std::fs::File;
 use std::io::{BufRead, BufReader, Result, Write};
@@ -15,15 +17,19 @@ fn main() -> Result<()> {
     let mut input = BufReader::with_capacity(BLOCK, stdin);
     let mut output = Vec::with_capacity(2 * BLOCK);
     let mut line = Vec::new();
-    let mut run = parallel::Run::new();
-    while !run.stopped() && input.read_until(b'\n', &mut line)? > 0 {
-        run.line(line.strip_suffix(b"\n").unwrap_or(&line), &mut output);
+    input.read_until(b'\n', &mut line)?;
+    let first = line.strip_suffix(b"\n").unwrap_or(&line);
+    let mut run = parallel::Run::new(first, &mut output).expect("an accepted formula");
+    line.clear();
+    while input.read_until(b'\n', &mut line)? > 0 {
+        let trace = line.strip_suffix(b"\n").unwrap_or(&line);
+        run.trace_line(trace, &mut output)
+            .expect("an accepted trace");
         line.clear();
         if output.len() >= BLOCK {
             stdout.write_all(&output)?;
             output.clear();
         }
     }
-    run.end(&mut output);
     stdout.write_all(&output)
 }

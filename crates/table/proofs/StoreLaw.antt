@@ -8,7 +8,7 @@ use lib.Seq.{sets}
 use Rattle.table.specs.Node.{Node, node, numbers_of, ◌▸◌}
 
 -- Two runs of stores, one after the other.
-pub sets-sets : (xs ys l : List ℕ) (i j : ℕ) → i + length xs ≡ j → sets (sets l i xs) j ys ≡ sets l i (xs ++ ys)
+pub sets-sets : {A : Type 0} (xs ys l : List A) (i j : ℕ) → i + length xs ≡ j → sets (sets l i xs) j ys ≡ sets l i (xs ++ ys)
 sets-sets [] ys l i j e = ap (λ (n : ℕ). sets l n ys) (omega arith)
 sets-sets (x ∷ xs) ys l i j e = sets-sets xs ys _ (suc i) j (omega arith)
 

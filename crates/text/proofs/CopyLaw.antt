@@ -7,15 +7,11 @@ use lib.ListN.{length, get_or, take, drop, set, length-take, length-drop, drop_o
 use lib.Seq.{sets, take_all}
 use borrow.Rule.Slice.PartMut.{put_mid, post_of, Post-is}
 use Rattle.std.proofs.lemmas.List.{take_more}
-
--- A store more.
-sets_more : {A : Type 0} (xs l : List A) (i j : ℕ) (x : A) → i + length xs ≡ j → set (sets l i xs) j x ≡ sets l i (xs ++ (x ∷ []))
-sets_more [] l i j x e = ap (λ (n : ℕ). set l n x) (omega arith)
-sets_more (y ∷ xs) l i j x e = sets_more xs (set l i y) (suc i) j x (omega arith)
+use Rattle.table.proofs.StoreLaw.{sets-sets}
 
 pub copied_more : {A : Type 0} (part l m : List A) (i : ℕ) (x : A) → i < length part → x ≡ get_or part i x → m ≡ sets l 0 (take i part) → set m i x ≡ sets l 0 (take (i + 1) part)
 copied_more part l m i x h e c =
-    ap (λ k. set k i x) c ∙ sets_more (take i part) l 0 i x (omega (arith, length-take i part))
+    ap (λ k. set k i x) c ∙ sets-sets (take i part) (x ∷ []) l 0 i (omega (arith, length-take i part))
     ∙ ap (sets l 0) (ap (λ k. take i part ++ (k ∷ [])) e ∙ sym (take_more part i x h))
 
 sets-cons : (w l : List ℕ) (x i : ℕ) → sets (x ∷ l) (suc i) w ≡ x ∷ sets l i w
