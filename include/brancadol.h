@@ -4,7 +4,7 @@
  * input, refused ones too: crates/brancadol/src/lib.rt has the contracts.
  * The library keeps no state, asks for no memory and calls nothing but memset,
  * so threads may call it at the same time. It needs stack, which the proofs do
- * not count: some 0.6 MB were measured for the deepest line that
+ * not count: some 0.8 MB were measured for the deepest line that
  * brancadol_read_formula refuses, 0.2 MB for the deepest that it takes, and less
  * than that for all else. Link with -lbrancadol; x86-64 Linux.
  *
@@ -112,7 +112,7 @@ enum brancadol_refusal_number {
     /* of lines */
     BRANCADOL_REFUSED_LINE_LONG = 17,    /* more than 16,384 bytes */
     BRANCADOL_REFUSED_LINE_SHAPE = 18,   /* not of the shape */
-    BRANCADOL_REFUSED_LINE_NODES = 19,   /* a formula of more than 1,024 nodes */
+    BRANCADOL_REFUSED_LINE_NODES = 19,   /* a formula of more than 1,024 nodes, spelled out */
     BRANCADOL_REFUSED_LINE_SIGNAL = 20,  /* a signal above 31 */
     BRANCADOL_REFUSED_LINE_LETTER = 21,  /* a letter above 4,294,967,295 */
     BRANCADOL_REFUSED_LINE_LETTERS = 22, /* more than 64 letters */
@@ -140,9 +140,10 @@ static inline size_t brancadol_loop_length(uint64_t answer) {
     return (size_t)(brancadol_value(answer) >> 16);
 }
 
-/* Reads a formula line, "(psl F)" without a line end, into a PSL table. Value:
- * its nodes n; the first 3 * n numbers of out are the table. Refusals: 17, 18,
- * 19, 20, 23. */
+/* Reads a formula line, "(psl F)" without a line end, into a PSL table. Short
+ * forms in F are spelled out, and the table is that of the formula spelled out.
+ * Value: its nodes n; the first 3 * n numbers of out are the table. Refusals:
+ * 17, 18, 19, 20, 23. */
 uint64_t brancadol_read_formula(const uint8_t *line, size_t line_length,
                                 uint16_t *out, size_t out_length);
 

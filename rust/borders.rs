@@ -33,6 +33,10 @@ const FORMULAS: [&str; 22] = [
     "(psl (not (until (weak true) (not (abort (next (weak (var 0))) (band (var 0) (var 1)))))))",
 ];
 
+/// A line with every short form.
+const SHORT: &str = "(psl (or (implies (before (wnext (weak true)) (strong (var 1))) (weak true)) \
+    (iff (eventually (weak true)) (wuntil (always (weak true)) (abort (weak true) true)))))";
+
 const TRACES: [&str; 7] = [
     "(finite)",
     "(finite 0)",
@@ -161,15 +165,60 @@ fn nested(count: usize, open: usize) -> Vec<u8> {
     format!("(psl {}(weak true){})", before, after).into_bytes()
 }
 
+/// Forms that have so many times the nodes of the formula at @, and so many more.
+const COPYING: [(&str, usize, usize); 4] = [
+    ("(iff (weak true) @)", 2, 15),
+    ("(iff @ (weak true))", 2, 15),
+    ("(wuntil @ (weak true))", 2, 12),
+    ("(iff (next (weak true)) (wuntil @ (weak true)))", 4, 41),
+];
+
+/// A formula of exactly so many nodes when spelled out, such a form in another.
+fn copying(form: &str, times: usize, more: usize, nodes: usize) -> String {
+    let inner = |nodes| copying(form, times, more, nodes);
+    match nodes.checked_sub(more) {
+        Some(rest) if rest >= 2 * times && rest % times == 0 => {
+            form.replace('@', &inner(rest / times))
+        }
+        _ if nodes == 2 => "(weak true)".to_string(),
+        _ => format!("(not {})", inner(nodes - 1)),
+    }
+}
+
+/// Lines around 1,024 nodes when spelled out, and lines of about 16,384 bytes
+/// that have far more, without and with a fault in the last byte.
+fn copying_lines() -> Vec<Vec<u8>> {
+    let mut lines = Vec::new();
+    for (form, times, more) in COPYING {
+        for nodes in 1000..1050 {
+            let formula = copying(form, times, more, nodes);
+            lines.push(format!("(psl {formula})").into_bytes());
+        }
+        let (before, after) = form.split_once('@').unwrap();
+        for length in [16383, 16384, 16385] {
+            let depth = (length - 20) / (form.len() - 1);
+            let (before, after) = (before.repeat(depth), after.repeat(depth));
+            let line = filled(&format!("(psl {before}(weak (var @)){after})"), length);
+            lines.push([&line[..length - 1], b" "].concat());
+            lines.push(line);
+        }
+    }
+    lines
+}
+
 pub fn formula_lines() -> Vec<(Line, usize)> {
     let mut lines = damaged(FORMULAS[20]);
     for formula in [FORMULAS[9], FORMULAS[13], FORMULAS[15]] {
         lines.extend(damaged(formula).into_iter().step_by(5));
     }
+    lines.extend(damaged(SHORT));
+    lines.extend(copying_lines());
     lines.extend([1023, 1024, 1025].map(|nodes| spell(&chain(nodes, oracle::PSL_NEXT))));
     for length in [16383, 16384, 16385] {
         lines.push(filled("(psl (weak (var @)))", length));
-        lines.push(format!("(psl {}", "(not ".repeat(length)).into_bytes()[..length].to_vec());
+        for form in ["(not ", "(or ", "(or (weak true) "] {
+            lines.push(format!("(psl {}", form.repeat(length)).into_bytes()[..length].to_vec());
+        }
     }
     lines.extend([
         nested(1023, 0),
@@ -244,6 +293,9 @@ pub fn inputs() -> Vec<Vec<u8>> {
     let largest = spell(&chain(1024, oracle::PSL_NEXT));
     inputs.push([&largest[..], b"\n(finite 0)\n(lasso () (0))\n(finite)\n"].concat());
     inputs.push(nested(2727, 0));
-    inputs.push(format!("(psl {}", "(not ".repeat(3275)).into_bytes());
+    inputs.push(format!("(psl {}", "(or ".repeat(4094)).into_bytes());
+    let short = format!("{SHORT}\n(finite)\n(finite 2)\n(lasso () (0 2))\n");
+    inputs.push(short.into_bytes());
+    inputs.extend(copying_lines());
     inputs
 }

@@ -450,6 +450,11 @@ pub fn space(rng: &mut Rng, enough: usize) -> usize {
 
 // ----------------------------------------------------------------- lines
 
+/// The words of the PSL kinds.
+const WORDS: [&str; 11] = [
+    "true", "var", "bnot", "band", "weak", "strong", "not", "and", "next", "until", "abort",
+];
+
 /// The line of an accepted PSL table, whatever its numbering.
 pub fn spell(table: &[u16]) -> Vec<u8> {
     let mut line = b"(psl ".to_vec();
@@ -460,21 +465,85 @@ pub fn spell(table: &[u16]) -> Vec<u8> {
 
 fn spell_node(table: &[u16], node: usize, line: &mut Vec<u8>) {
     let kind = table[3 * node];
-    let opening = oracle::PSL_OPENINGS.iter().find(|form| form.0 == kind);
-    let Some((_, opening)) = opening else {
+    if kind == PSL_TRUE {
         return line.extend_from_slice(b"true");
-    };
-    line.extend_from_slice(opening.as_bytes());
-    if kind == PSL_VAR {
-        line.extend_from_slice(table[3 * node + 1].to_string().as_bytes());
     }
-    for (count, (_, operand)) in operands(table, node).enumerate() {
-        if count > 0 {
-            line.push(b' ');
-        }
+    line.extend_from_slice(format!("({}", WORDS[kind as usize]).as_bytes());
+    if kind == PSL_VAR {
+        line.extend_from_slice(format!(" {}", table[3 * node + 1]).as_bytes());
+    }
+    for (_, operand) in operands(table, node) {
+        line.push(b' ');
         spell_node(table, operand, line);
     }
     line.push(b')');
+}
+
+/// A form of one or two formulas, which stand at each @; the nodes of its own
+/// when spelled out; and how often each formula then stands.
+type Form = (&'static str, usize, [usize; 2]);
+
+const FORMS: [Form; 13] = [
+    ("(not @)", 1, [1, 0]),
+    ("(and @ @)", 1, [1, 1]),
+    ("(next @)", 1, [1, 0]),
+    ("(until @ @)", 1, [1, 1]),
+    ("(abort @ (var 0))", 2, [1, 0]),
+    ("(or @ @)", 4, [1, 1]),
+    ("(implies @ @)", 5, [1, 1]),
+    ("(wnext @)", 3, [1, 0]),
+    ("(eventually @)", 3, [1, 0]),
+    ("(always @)", 5, [1, 0]),
+    ("(before @ @)", 3, [1, 1]),
+    ("(iff @ @)", 11, [2, 2]),
+    ("(wuntil @ @)", 10, [2, 1]),
+];
+
+/// All forms, the short ones, those that double an operand.
+const CHOICES: [&[Form]; 3] = [&FORMS, FORMS.split_at(5).1, FORMS.split_at(11).1];
+
+/// Sizes of the operands with which a form has exactly `nodes` nodes.
+fn operand_sizes(rng: &mut Rng, form: &Form, nodes: usize) -> Option<[usize; 2]> {
+    let (_, own, [left, right]) = *form;
+    // Each formula has two nodes at least.
+    let rest = nodes.checked_sub(own + 2 * (left + right))?;
+    if right == 0 {
+        return Some([rest + 2, 0]);
+    }
+    let more = rng.between(0, rest / left);
+    let rest = rest - left * more;
+    (rest % right == 0).then_some([more + 2, rest / right + 2])
+}
+
+/// Adds a formula of exactly `nodes` nodes, at least 2, when spelled out.
+fn write_formula(rng: &mut Rng, nodes: usize, forms: &[Form], line: &mut Vec<u8>) {
+    let fitting: Vec<_> = forms
+        .iter()
+        .filter_map(|form| Some((form.0, operand_sizes(rng, form, nodes)?)))
+        .collect();
+    if fitting.is_empty() || rng.once_in(16) {
+        let mut table = Vec::new();
+        let root = grow_formula(rng, nodes, EVEN, &mut table);
+        return spell_node(&table, root as usize, line);
+    }
+    let (form, sizes) = rng.pick(&fitting);
+    let mut sizes = sizes.into_iter();
+    for part in form.split_inclusive('@') {
+        line.extend_from_slice(part.trim_end_matches('@').as_bytes());
+        if part.ends_with('@') {
+            write_formula(rng, sizes.next().unwrap(), forms, line);
+        }
+    }
+}
+
+/// A line with short forms that has exactly `nodes` nodes, at least 2, when
+/// spelled out.
+pub fn short_line(rng: &mut Rng, nodes: usize) -> Vec<u8> {
+    let forms = rng.pick(&CHOICES);
+    let mut line = b"(psl ".to_vec();
+    write_formula(rng, nodes, forms, &mut line);
+    line.push(b')');
+    line
 }
 
 /// The line of a trace. An empty cycle gives a finite trace.
@@ -495,7 +564,7 @@ pub fn spell_trace(lead: &[Letter], cycle: &[Letter]) -> Vec<u8> {
 
 /// Texts, and what some occurrence of one becomes. The empty text occurs
 /// everywhere.
-const REPLACED: [(&str, &[&str]); 21] = [
+const REPLACED: [(&str, &[&str]); 27] = [
     ("", &[" ", "(", ")", "0", "x", "\t", "\r", "\0"]),
     ("(", &["", "(("]),
     (")", &["", "))", " )", ") "]),
@@ -508,6 +577,13 @@ const REPLACED: [(&str, &[&str]); 21] = [
     ("next", &["not", "weak"]),
     ("until", &["and", "abort"]),
     ("abort", &["until", "band"]),
+    // Short forms, with one operand too few or too many, and nearly their words.
+    ("or ", &["or", "always ", "wnext (or "]),
+    ("implies", &["iff", "eventually", "imply"]),
+    ("iff", &["iffy", "wuntil", "if", "not"]),
+    ("wnext", &["next", "always", "before", "weaknext"]),
+    ("always", &["eventually", "or", "Always"]),
+    ("until", &["wuntil", "before", "wnext"]),
     ("true", &["(true)", "tru", "(weak true)"]),
     ("(var ", &["(weak ", "(var (", "("]),
     ("finite", &["lasso", "finit"]),
@@ -565,8 +641,23 @@ fn change_line(rng: &mut Rng, line: &mut Vec<u8>) {
     }
 }
 
+/// A node count for a line with short forms, at times about the largest.
+fn spelled_size(rng: &mut Rng) -> usize {
+    match rng.below(100) {
+        0 | 1 => rng.between(1020, 1028),
+        2 => rng.between(200, 3000),
+        3..=20 => rng.between(40, 200),
+        _ => rng.between(5, 40),
+    }
+}
+
 pub fn any_formula_line(rng: &mut Rng) -> Vec<u8> {
-    let line = spell(&some_psl_table(rng));
+    let line = if rng.once_in(2) {
+        spell(&some_psl_table(rng))
+    } else {
+        let nodes = spelled_size(rng);
+        short_line(rng, nodes)
+    };
     changed(rng, line, change_line)
 }
 
@@ -580,9 +671,12 @@ pub fn any_trace_line(rng: &mut Rng) -> Vec<u8> {
 pub fn whole_input(rng: &mut Rng, traces: usize) -> Vec<u8> {
     let mut input = if rng.once_in(4) {
         any_formula_line(rng)
-    } else {
+    } else if rng.once_in(2) {
         let nodes = rng.between(2, 14);
         spell(&psl_table(rng, nodes))
+    } else {
+        let nodes = rng.between(5, 40);
+        short_line(rng, nodes)
     };
     for _ in 0..traces {
         input.push(b'\n');

@@ -10,6 +10,7 @@
 #![allow(dead_code)]
 
 use super::types::{Letter, Refusal};
+use std::cell::RefCell;
 use std::collections::HashMap;
 
 /// Most letters a verdict takes, lead-in and cycle together.
@@ -652,19 +653,28 @@ impl<'a> Reader<'a> {
         self.take(text).then_some(()).ok_or(18)
     }
 
-    /// A number must stand next. Too large ones come back as u64::MAX, which
-    /// is above every limit.
+    /// One of the texts must stand next; what belongs to it. No text begins
+    /// another.
+    fn one_of<T: Copy>(&mut self, texts: &[(&str, T)]) -> Result<T, Refusal> {
+        let found = texts.iter().find(|(text, _)| self.take(text));
+        found.map(|&(_, meant)| meant).ok_or(18)
+    }
+
+    /// A number must stand next, which ends after a leading 0. Too large ones
+    /// come back as u64::MAX, which is above every limit.
     fn number(&mut self) -> Result<u64, Refusal> {
-        let count = self
-            .bytes
-            .iter()
-            .take_while(|byte| byte.is_ascii_digit())
-            .count();
-        let digits = &self.bytes[..count];
-        self.bytes = &self.bytes[count..];
-        if digits.is_empty() || (digits.len() > 1 && digits[0] == b'0') {
+        let count = match self.bytes {
+            [b'0', ..] => 1,
+            bytes => bytes
+                .iter()
+                .take_while(|byte| byte.is_ascii_digit())
+                .count(),
+        };
+        let (digits, rest) = self.bytes.split_at(count);
+        if digits.is_empty() {
             return Err(18);
         }
+        self.bytes = rest;
         Ok(digits.iter().fold(0u64, |value, &digit| {
             value
                 .saturating_mul(10)
@@ -698,98 +708,194 @@ impl<'a> Reader<'a> {
     }
 }
 
-/// Kind and opening text of each PSL form but `true`.
-pub const PSL_OPENINGS: [(u16, &str); 10] = [
-    (PSL_VAR, "(var "),
-    (PSL_BNOT, "(bnot "),
-    (PSL_BAND, "(band "),
-    (PSL_WEAK, "(weak "),
-    (PSL_STRONG, "(strong "),
-    (PSL_NOT, "(not "),
-    (PSL_AND, "(and "),
-    (PSL_NEXT, "(next "),
-    (PSL_UNTIL, "(until "),
-    (PSL_ABORT, "(abort "),
+/// A formula or Boolean of a line, by its place among the forms read.
+type Form = usize;
+
+/// A form spelled out: a node, whose operands are forms.
+struct Spelled {
+    kind: u16,
+    signal: u64,
+    operands: [Option<Form>; 2],
+    /// How many nodes it has, or usize::MAX where that is too small.
+    nodes: usize,
+}
+
+/// Forms made so far. One may be an operand more than once, as it is where a
+/// short form says it twice.
+struct Forms(RefCell<Vec<Spelled>>);
+
+impl Forms {
+    fn form(&self, kind: u16, signal: u64, operands: [Option<Form>; 2]) -> Form {
+        let mut forms = self.0.borrow_mut();
+        let counts = operands
+            .iter()
+            .flatten()
+            .map(|&operand| forms[operand].nodes);
+        let nodes = counts.fold(1, usize::saturating_add);
+        forms.push(Spelled {
+            kind,
+            signal,
+            operands,
+            nodes,
+        });
+        forms.len() - 1
+    }
+
+    fn leaf(&self, kind: u16, signal: u64) -> Form {
+        self.form(kind, signal, [None, None])
+    }
+
+    fn one(&self, kind: u16, f: Form) -> Form {
+        self.form(kind, 0, [Some(f), None])
+    }
+
+    fn two(&self, kind: u16, f: Form, g: Form) -> Form {
+        self.form(kind, 0, [Some(f), Some(g)])
+    }
+
+    fn not(&self, f: Form) -> Form {
+        self.one(PSL_NOT, f)
+    }
+
+    fn and(&self, f: Form, g: Form) -> Form {
+        self.two(PSL_AND, f, g)
+    }
+
+    fn next(&self, f: Form) -> Form {
+        self.one(PSL_NEXT, f)
+    }
+
+    fn until(&self, f: Form, g: Form) -> Form {
+        self.two(PSL_UNTIL, f, g)
+    }
+}
+
+/// The short forms, sentence by sentence as document 02, N1, spells them out.
+impl Forms {
+    fn or(&self, f: Form, g: Form) -> Form {
+        self.not(self.and(self.not(f), self.not(g)))
+    }
+
+    fn implies(&self, f: Form, g: Form) -> Form {
+        self.or(self.not(f), g)
+    }
+
+    fn iff(&self, f: Form, g: Form) -> Form {
+        self.and(self.implies(f, g), self.implies(g, f))
+    }
+
+    fn wnext(&self, f: Form) -> Form {
+        self.not(self.next(self.not(f)))
+    }
+
+    fn eventually(&self, f: Form) -> Form {
+        self.until(self.one(PSL_STRONG, self.leaf(PSL_TRUE, 0)), f)
+    }
+
+    fn always(&self, f: Form) -> Form {
+        self.not(self.eventually(self.not(f)))
+    }
+
+    fn wuntil(&self, f: Form, g: Form) -> Form {
+        self.or(self.until(f, g), self.always(f))
+    }
+
+    fn before(&self, f: Form, g: Form) -> Form {
+        self.not(self.until(self.not(f), g))
+    }
+}
+
+/// What follows a formula's word, and how the formula is made of it.
+#[derive(Clone, Copy)]
+enum Made {
+    OfBoolean(u16),
+    OfOne(fn(&Forms, Form) -> Form),
+    OfTwo(fn(&Forms, Form, Form) -> Form),
+    Abort,
+}
+
+const FORMULAS: [(&str, Made); 15] = [
+    ("(weak ", Made::OfBoolean(PSL_WEAK)),
+    ("(strong ", Made::OfBoolean(PSL_STRONG)),
+    ("(not ", Made::OfOne(Forms::not)),
+    ("(and ", Made::OfTwo(Forms::and)),
+    ("(next ", Made::OfOne(Forms::next)),
+    ("(until ", Made::OfTwo(Forms::until)),
+    ("(abort ", Made::Abort),
+    ("(or ", Made::OfTwo(Forms::or)),
+    ("(implies ", Made::OfTwo(Forms::implies)),
+    ("(iff ", Made::OfTwo(Forms::iff)),
+    ("(wnext ", Made::OfOne(Forms::wnext)),
+    ("(eventually ", Made::OfOne(Forms::eventually)),
+    ("(always ", Made::OfOne(Forms::always)),
+    ("(wuntil ", Made::OfTwo(Forms::wuntil)),
+    ("(before ", Made::OfTwo(Forms::before)),
 ];
 
-/// What must come next in a formula line.
-enum Due {
-    Text(&'static str),
-    Form(Sort),
-    Number,
-    /// A form of this kind is complete and gets the next number.
-    Closed(u16),
-}
+const BOOLEANS: [(&str, u16); 4] = [
+    ("true", PSL_TRUE),
+    ("(var ", PSL_VAR),
+    ("(bnot ", PSL_BNOT),
+    ("(band ", PSL_BAND),
+];
 
-/// A formula line being read. A list of what is due stands for recursion, so
-/// depth costs no stack.
+/// A formula line being read, refusal 18 only. Its depth is that of the stack,
+/// and bounded by its length.
 struct FormulaReader<'a> {
     reader: Reader<'a>,
-    /// The last entry is due first.
-    due: Vec<Due>,
-    /// Signals and numbers of closed forms whose user is still open.
-    waiting: Vec<u64>,
-    nodes: Vec<[u64; 3]>,
+    forms: &'a Forms,
 }
 
-impl<'a> FormulaReader<'a> {
-    /// A form of this sort must begin here; what it is made of is due next.
-    fn open(&mut self, sort: Sort) -> Result<(), Refusal> {
-        if sort == Sort::Boolean && self.reader.take("true") {
-            self.due.push(Due::Closed(PSL_TRUE));
-            return Ok(());
-        }
-        let opened = PSL_OPENINGS
-            .iter()
-            .find(|&&(kind, text)| psl_sort(kind) == sort && self.reader.take(text));
-        let kind = opened.ok_or(18)?.0;
-        let part = |place: Place| match place {
-            Place::Operand(sort) => Due::Form(sort),
-            _ => Due::Number,
+impl FormulaReader<'_> {
+    fn boolean(&mut self) -> Result<Form, Refusal> {
+        let forms = self.forms;
+        let made = match self.reader.one_of(&BOOLEANS)? {
+            PSL_TRUE => return Ok(forms.leaf(PSL_TRUE, 0)),
+            PSL_VAR => forms.leaf(PSL_VAR, self.reader.number()?),
+            PSL_BNOT => forms.one(PSL_BNOT, self.boolean()?),
+            _ => forms.two(PSL_BAND, self.boolean()?, self.second(Self::boolean)?),
         };
-        let places = psl_places(kind).unwrap();
-        self.due.push(Due::Closed(kind));
-        self.due.push(Due::Text(")"));
-        if places[1] != Place::Unused {
-            self.due.push(part(places[1]));
-            self.due.push(Due::Text(" "));
-        }
-        self.due.push(part(places[0]));
-        Ok(())
+        self.reader.expect(")")?;
+        Ok(made)
     }
 
-    /// Numbers a complete form.
-    fn close(&mut self, kind: u16) {
-        let places = psl_places(kind).unwrap();
-        let mut node = [kind as u64, 0, 0];
-        for side in [1, 0] {
-            if places[side] != Place::Unused {
-                node[1 + side] = self.waiting.pop().unwrap();
-            }
-        }
-        self.waiting.push(self.nodes.len() as u64);
-        self.nodes.push(node);
+    fn formula(&mut self) -> Result<Form, Refusal> {
+        let forms = self.forms;
+        let made = match self.reader.one_of(&FORMULAS)? {
+            Made::OfBoolean(kind) => forms.one(kind, self.boolean()?),
+            Made::OfOne(make) => make(forms, self.formula()?),
+            Made::OfTwo(make) => make(forms, self.formula()?, self.second(Self::formula)?),
+            Made::Abort => forms.two(PSL_ABORT, self.formula()?, self.second(Self::boolean)?),
+        };
+        self.reader.expect(")")?;
+        Ok(made)
+    }
+
+    /// A second operand, after a space.
+    fn second(&mut self, form: fn(&mut Self) -> Result<Form, Refusal>) -> Result<Form, Refusal> {
+        self.reader.expect(" ")?;
+        form(self)
+    }
+
+    fn line(&mut self) -> Result<Form, Refusal> {
+        self.reader.expect("(psl ")?;
+        let formula = self.formula()?;
+        self.reader.expect(")")?;
+        self.reader.end()?;
+        Ok(formula)
     }
 }
 
-/// The nodes of a formula line in closing order, refusal 18 only.
-fn formula_nodes(line: &[u8]) -> Result<Vec<[u64; 3]>, Refusal> {
-    let mut form = FormulaReader {
-        reader: Reader { bytes: line },
-        due: vec![Due::Text(")"), Due::Form(Sort::Formula), Due::Text("(psl ")],
-        waiting: Vec::new(),
-        nodes: Vec::new(),
-    };
-    while let Some(next) = form.due.pop() {
-        match next {
-            Due::Text(text) => form.reader.expect(text)?,
-            Due::Number => form.waiting.push(form.reader.number()?),
-            Due::Form(sort) => form.open(sort)?,
-            Due::Closed(kind) => form.close(kind),
-        }
+/// Appends the nodes of a form as they close, its operands' each time anew,
+/// and returns the number of its own.
+fn close(forms: &[Spelled], form: Form, nodes: &mut Vec<[u64; 3]>) -> u64 {
+    let form = &forms[form];
+    let mut node = [form.kind as u64, form.signal, 0];
+    for (place, &operand) in node[1..].iter_mut().zip(form.operands.iter().flatten()) {
+        *place = close(forms, operand, nodes);
     }
-    form.reader.end()?;
-    Ok(form.nodes)
+    nodes.push(node);
+    nodes.len() as u64 - 1
 }
 
 /// Formula line, refusals 17, 18, 19, 20, 23.
@@ -797,10 +903,18 @@ pub fn read_formula(line: &[u8], out: &mut [u16]) -> Result<usize, Refusal> {
     if line.len() > MAX_LINE {
         return Err(17);
     }
-    let nodes = formula_nodes(line)?;
-    if nodes.len() > MAX_PSL_NODES {
+    let forms = Forms(RefCell::new(Vec::new()));
+    let mut reader = FormulaReader {
+        reader: Reader { bytes: line },
+        forms: &forms,
+    };
+    let formula = reader.line()?;
+    let forms = forms.0.into_inner();
+    if forms[formula].nodes > MAX_PSL_NODES {
         return Err(19);
     }
+    let mut nodes = Vec::with_capacity(forms[formula].nodes);
+    close(&forms, formula, &mut nodes);
     if nodes
         .iter()
         .any(|node| node[0] == PSL_VAR as u64 && node[1] > MAX_SIGNAL as u64)
@@ -810,10 +924,7 @@ pub fn read_formula(line: &[u8], out: &mut [u16]) -> Result<usize, Refusal> {
     if out.len() < 3 * nodes.len() {
         return Err(23);
     }
-    for (place, &value) in out
-        .iter_mut()
-        .zip(nodes.iter().flat_map(|node| node.iter()))
-    {
+    for (place, &value) in out.iter_mut().zip(nodes.iter().flatten()) {
         *place = value as u16;
     }
     Ok(nodes.len())

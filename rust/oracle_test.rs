@@ -1,6 +1,6 @@
 //! Tests of the evaluator that the library is compared with, by what the
-//! papers give: the sentences with known verdicts and the worked run; and of
-//! its words. `./build oracle_test` builds it.
+//! papers give: the sentences with known verdicts, the worked run and the
+//! short forms; and of its words. `./build oracle_test` builds it.
 
 mod generate;
 mod oracle;
@@ -27,7 +27,31 @@ until that is never fulfilled: (until (strong p) (strong q)): (lasso () (1)): no
 not under abort: (abort (not (strong true)) p): (finite 0 1): no
 abort at the second moment: (abort (next (next (strong (bnot true)))) p): (finite 0 1): yes
 rejected by the outer not: (not (abort (not (next (next (weak true)))) p)): (finite 0 1 0): no
-abort in the second round: (abort (next (next (next (strong q)))) p): (lasso () (0 1)): yes";
+abort in the second round: (abort (next (next (next (strong q)))) p): (lasso () (0 1)): yes
+or, the second: (or (strong p) (strong q)): (finite 2): yes
+or, neither: (or (strong p) (strong q)): (finite 4): no
+implies, nothing asked: (implies (strong p) (strong q)): (finite 4): yes
+implies, broken: (implies (strong p) (strong q)): (finite 1): no
+iff, neither: (iff (strong p) (strong q)): (finite 4): yes
+iff, the second only: (iff (strong p) (strong q)): (finite 2): no
+wnext at the last moment: (wnext (strong p)): (finite 0): yes
+wnext on nothing: (wnext (strong p)): (finite): yes
+wnext, broken: (wnext (strong p)): (finite 1 0): no
+eventually in the end: (eventually (strong p)): (finite 0 0 1): yes
+eventually on nothing: (eventually (weak p)): (finite): no
+eventually, looping: (eventually (strong p)): (lasso (0) (2 1)): yes
+always, finite: (always (strong p)): (finite 1 1): yes
+always, broken in the end: (always (strong p)): (finite 1 0): no
+always on nothing: (always (strong p)): (finite): yes
+always, looping: (always (strong p)): (lasso (3) (1 3)): yes
+always, broken in the loop: (always (strong p)): (lasso (3) (1 2)): no
+wuntil for ever: (wuntil (strong p) (strong q)): (lasso () (1)): yes
+wuntil to the end: (wuntil (strong p) (strong q)): (finite 1 1): yes
+wuntil, broken: (wuntil (strong p) (strong q)): (finite 1 0 2): no
+before: (before (strong p) (strong q)): (finite 0 1 2): yes
+before, both never: (before (strong p) (strong q)): (finite 0 0): yes
+before, at once: (before (strong p) (strong q)): (finite 0 3): no
+before, too late: (before (strong p) (strong q)): (lasso (0) (2 1)): no";
 
 /// Every evaluator, and the run, gives the verdict.
 fn sentence(sentence: &str) {
@@ -35,7 +59,7 @@ fn sentence(sentence: &str) {
     let [name, formula, trace, verdict] = parts[..] else {
         panic!("not a sentence: {sentence}");
     };
-    let formula = formula.replace('p', "(var 0)").replace('q', "(var 1)");
+    let formula = formula.replace(" p", " (var 0)").replace(" q", " (var 1)");
     let line = format!("(psl {})", formula);
     let mut table = [0; 3 * oracle::MAX_PSL_NODES];
     let nodes = oracle::read_formula(line.as_bytes(), &mut table).expect(name);
@@ -124,13 +148,67 @@ fn words() {
     }
 }
 
+/// Each short form of p and q, strong var 0 and weak var 1, and its table.
+const SHORT_FORMS: [(&str, &str); 8] = [
+    (
+        "(or P Q)",
+        "1 0 0 5 0 0 6 1 0 1 1 0 4 3 0 6 4 0 7 2 5 6 6 0",
+    ),
+    (
+        "(implies P Q)",
+        "1 0 0 5 0 0 6 1 0 6 2 0 1 1 0 4 4 0 6 5 0 7 3 6 6 7 0",
+    ),
+    (
+        "(iff P Q)",
+        "1 0 0 5 0 0 6 1 0 6 2 0 1 1 0 4 4 0 6 5 0 7 3 6 6 7 0 \
+         1 1 0 4 9 0 6 10 0 6 11 0 1 0 0 5 13 0 6 14 0 7 12 15 6 16 0 7 8 17",
+    ),
+    ("(wnext P)", "1 0 0 5 0 0 6 1 0 8 2 0 6 3 0"),
+    ("(eventually P)", "0 0 0 5 0 0 1 0 0 5 2 0 9 1 3"),
+    ("(always P)", "0 0 0 5 0 0 1 0 0 5 2 0 6 3 0 9 1 4 6 5 0"),
+    (
+        "(wuntil P Q)",
+        "1 0 0 5 0 0 1 1 0 4 2 0 9 1 3 6 4 0 \
+         0 0 0 5 6 0 1 0 0 5 8 0 6 9 0 9 7 10 6 11 0 6 12 0 7 5 13 6 14 0",
+    ),
+    ("(before P Q)", "1 0 0 5 0 0 6 1 0 1 1 0 4 3 0 9 2 4 6 5 0"),
+];
+
+fn short_forms() {
+    let mut table = [0; 3 * oracle::MAX_PSL_NODES];
+    let mut read = |line: &[u8]| {
+        let nodes = oracle::read_formula(line, &mut table)?;
+        Ok(table[..3 * nodes].to_vec())
+    };
+    for (form, due) in SHORT_FORMS {
+        let formula = form.replace('P', "(strong (var 0))");
+        let line = format!("(psl {})", formula.replace('Q', "(weak (var 1))"));
+        let due: Vec<u16> = due.split(' ').map(|part| part.parse().unwrap()).collect();
+        assert_eq!(read(line.as_bytes()), Ok(due), "{form}");
+    }
+    // The generator counts nodes by the sizes of the forms.
+    let mut rng = Rng::new(12);
+    for nodes in (2..1100).chain(2..1100) {
+        let due = if nodes > 1024 { Err(19) } else { Ok(nodes) };
+        let line = generate::short_line(&mut rng, nodes);
+        let got = read(&line).map(|table| table.len() / 3);
+        assert_eq!(got, due, "{}", line.escape_ascii());
+    }
+    // A count beyond every number, which would be small again if it wrapped.
+    let before = "(not ".repeat(30) + &"(iff (weak true) ".repeat(870);
+    let line = format!("(psl {before}(weak true){})", ")".repeat(900));
+    assert_eq!(read(line.as_bytes()), Err(19));
+    assert_eq!(read(&line.as_bytes()[..line.len() - 1]), Err(18));
+}
+
 fn main() {
     SENTENCES.lines().for_each(sentence);
     let output = oracle::run(WORKED_INPUT.as_bytes());
     assert_eq!(String::from_utf8(output).unwrap(), WORKED_OUTPUT);
     words();
+    short_forms();
     println!(
-        "oracle_test: {} sentences, the worked run and words passed",
+        "oracle_test: {} sentences, the worked run, words and short forms passed",
         SENTENCES.lines().count()
     );
 }

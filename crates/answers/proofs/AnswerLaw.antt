@@ -18,6 +18,7 @@ use Rattle.table.specs.Node.{numbers_of}
 use Rattle.table.proofs.NodeLaw.{length-numbers}
 use Rattle.table.proofs.CheckLaw.{or-none, unless-none}
 use Rattle.logic.specs.Formula.{Formula}
+use Rattle.logic.specs.Written.{Written, spelled_out}
 use Rattle.logic.specs.Meaning.{HoldsOn}
 use Rattle.psl.specs.Table.{formula_of}
 use Rattle.psl.specs.Check.{psl_rules, psl_refusal}
@@ -34,9 +35,8 @@ use Rattle.ltl_verdict.specs.Verdict.{LtlJudges}
 use Rattle.ltl_verdict.proofs.JudgesLaw.{ltl_fine, ltl-empty}
 use Rattle.formula_lines.specs.Spelling.{formula_line}
 use Rattle.trace_lines.specs.Spelling.{TraceLists, line_of_trace}
-use Rattle.psl.specs.Closing.{closing_nodes}
 use Rattle.text.specs.Reading.{Takes, Refuses}
-use Rattle.formula_lines.specs.FormulaAnswer.{formula_limits, formula_refusal, FormulaAnswer}
+use Rattle.formula_lines.specs.FormulaAnswer.{table_nodes, formula_limits, formula_refusal, FormulaAnswer}
 use Rattle.trace_lines.specs.TraceAnswer.{trace_limits, TraceAnswer}
 use Rattle.text.proofs.ReadingLaw.{takes_by, refuses_by, front-take, front_length}
 use Rattle.formula_lines.proofs.LimitsLaw.{limits-few, limits-accepted, formula-room}
@@ -47,11 +47,11 @@ use Rattle.answers.specs.Inner.{TablesOf, Accepted}
 
 -- ── The tables of a formula within the limits ──
 
-pub tables_accepted : {f : Formula} {psl ltl : List ℕ} → TablesOf f psl ltl → Accepted psl ltl
+pub tables_accepted : {f : Written} {psl ltl : List ℕ} → TablesOf f psl ltl → Accepted psl ltl
 tables_accepted {f} {psl} {ltl} a =
-    let t = numbers_of (closing_nodes f) in
+    let t = numbers_of (table_nodes f) in
     let e = limits-accepted f a.limits in
-    let g : emitted (formula_of t) ≡ emitted f = ap emitted (closing_formula f) in
+    let g : emitted (formula_of t) ≡ emitted (spelled_out f) = ap emitted (closing_formula (spelled_out f)) in
     (ap psl_refusal a.read ∙ e, ap ltl_refusal (a.translated ∙ sym g) ∙ emitted-accepted t e (omega (arith, size-most t e)))
 
 -- ── Line 1 ──
@@ -62,25 +62,25 @@ translation-few {m = m} {s} d = let out = d.succeeds s refl in (omega (arith, ou
 
 module _ (line l m : List ℕ) where
   module _ (n : ℕ) (a : FormulaAnswer line l (Ok n) m) where
-    abbrev f : Formula
+    abbrev f : Written
     f = a.0
 
     -- A list that took a table had room for it.
     pub first-few : (n ≤ psl_rules.most) × (3 * n ≤ length m)
     unfolding formula_refusal
     first-few =
-        let nodes = closing_nodes f in
+        let nodes = table_nodes f in
         let (small, room) = or-none (formula_limits f) (unless (leb (3 * length nodes) (length l)) ListRoom none) a.1.within in
         let few = limits-few f small in
         let fits = leb-true (3 * length nodes) (length l) (unless-none (leb (3 * length nodes) (length l)) ListRoom none room).0 in
         let counted = length-numbers nodes in
         (omega (arith, a.2), omega (arith, a.2, ap length a.3 ∙ front_length (numbers_of nodes) l (omega arith)))
 
-    first-table : take (3 * n) m ≡ numbers_of (closing_nodes f)
-    first-table = ap (take (3 * n)) a.3 ∙ front-take (numbers_of (closing_nodes f)) l (3 * n) (omega (arith, a.2, length-numbers (closing_nodes f)))
+    first-table : take (3 * n) m ≡ numbers_of (table_nodes f)
+    first-table = ap (take (3 * n)) a.3 ∙ front-take (numbers_of (table_nodes f)) l (3 * n) (omega (arith, a.2, length-numbers (table_nodes f)))
 
-    stands : formula_of (take (3 * n) m) ≡ f
-    stands = ap formula_of first-table ∙ closing_formula f
+    stands : formula_of (take (3 * n) m) ≡ spelled_out f
+    stands = ap formula_of first-table ∙ closing_formula (spelled_out f)
 
   module _ (room : length l ≡ 3 * psl_rules.most) where
     pub first-refused : {x : Refusal} → FormulaAnswer line l (Err x) m → Refuses formula_line formula_limits line x
@@ -107,7 +107,7 @@ module _ (line l m : List ℕ) where
           let z : ◌≡◌ {A = ℕ} 0 1 = cc in omega arith
 
       pub first_tables : {k k' : List ℕ} {s : ℕ} → Delivers (take (3 * n) m) k (Ok s) k'
-          → (f : Formula) × Takes formula_line formula_limits line f × TablesOf f (take (3 * n) m) (take (3 * s) k')
+          → (f : Written) × Takes formula_line formula_limits line f × TablesOf f (take (3 * n) m) (take (3 * s) k')
       first_tables {s = s} d =
           let out = d.succeeds s refl in
           (f n a, first_taken, record { limits = first_taken.within; read = first-table n a; translated = out.is ∙ ap emitted (stands n a) })
@@ -153,7 +153,7 @@ module _ (line l m : List ℕ) where
     )
 
     pub later_judged : {psl ltl : List ℕ} {v w : Result Bool Refusal} → PslJudges psl (take a l) (take b m) v → LtlJudges ltl (take a l) (take b m) w
-        → (f : Formula) → TablesOf f psl ltl → LaterAnswer f line (Ok (record { psl = v; ltl = w }))
+        → (f : Written) → TablesOf f psl ltl → LaterAnswer (spelled_out f) line (Ok (record { psl = v; ltl = w }))
     unfolding psl_verdict_refusal
     later_judged {psl} {ltl} {v} {w} p q f s =
         let lead : take a l ≡ t.lead = ap (take a) r.4 ∙ front-take t.lead room a r.2 in
@@ -164,7 +164,7 @@ module _ (line l m : List ℕ) where
           t,
           taken,
           record {
-            psl = subst (λ (g : Formula). VerdictOn (HoldsOn g t.lead t.loop) v) (ap formula_of s.read ∙ closing_formula f)
+            psl = subst (λ (g : Formula). VerdictOn (HoldsOn g t.lead t.loop) v) (ap formula_of s.read ∙ closing_formula (spelled_out f))
                 (tells (HoldsOn (formula_of psl) t.lead t.loop) v (not-long (psl_refusal psl) t.lead t.loop ok short) p');
             ltl = λ h. subst (λ (x : List ℕ). VerdictOn (LtlHoldsOn (tree_of x) t.lead t.loop) w) s.translated
                 (tells (LtlHoldsOn (tree_of ltl) t.lead t.loop) w (ltl_fine ltl t.lead t.loop ok' short h) q');

@@ -11,6 +11,7 @@ use native.Mathlib.Decide.{dec_lt}
 use borrow.Author.Tests.{lt-ltb}
 use Rattle.logic.specs.Trace.{size}
 use Rattle.logic.specs.Formula.{Formula}
+use Rattle.logic.specs.Written.{Written, spelled_out}
 use Rattle.logic.specs.Meaning.{HoldsOn}
 use Rattle.logic.specs.LtlMeaning.{LtlHoldsOn}
 use Rattle.trace.specs.declared.refusal.Refusal.{Refusal}
@@ -131,8 +132,8 @@ prints_alone : (ls : List (List ℕ)) (out out' : List ℕ) → Prints ls out �
 prints_alone [] out out' p q = absurd p
 prints_alone (line ∷ ls) out out' (inl (f, rest, a, e, p)) (inl (g, rest', b, e', p')) =
     let d = taken_alone formula_line formula_injective formula_limits b a in
-    let tail = traces_alone f 1 ls rest rest' p (subst (λ (x : Formula). PrintsTraces x 1 ls rest') d p') in
-    e ∙ ap (λ (x : List ℕ). table_text (emitted f) ++ x) tail ∙ ap (λ (x : Formula). table_text (emitted x) ++ rest') (sym d) ∙ sym e'
+    let tail = traces_alone (spelled_out f) 1 ls rest rest' p (subst (λ (x : Written). PrintsTraces (spelled_out x) 1 ls rest') d p') in
+    e ∙ ap (λ (x : List ℕ). table_text (emitted (spelled_out f)) ++ x) tail ∙ ap (λ (x : Written). table_text (emitted (spelled_out x)) ++ rest') (sym d) ∙ sym e'
 prints_alone (line ∷ ls) out out' (inl (f, rest, a, e, p)) (inr (x, b, e')) = absurd (not_both formula_line formula_injective formula_limits a b)
 prints_alone (line ∷ ls) out out' (inr (x, b, e')) (inl (f, rest, a, e, p)) = absurd (not_both formula_line formula_injective formula_limits a b)
 prints_alone (line ∷ ls) out out' (inr (x, a, e)) (inr (y, b, e')) =

@@ -2,23 +2,22 @@
 use Rattle.std.specs.Prelude.{◌≡◌, List, ℕ, ◌+◌}
 use Rattle.std.proofs.Math.Option.{none}
 use Rattle.table.specs.Node.{numbers_of}
-use Rattle.logic.specs.Formula.{Formula}
+use Rattle.logic.specs.Written.{Written, spelled_out}
 use Rattle.psl.specs.Check.{psl_refusal}
 use Rattle.ltl.specs.Check.{ltl_refusal}
 use Rattle.translate.specs.Emitted.{emitted}
 use Rattle.text.specs.Limits.{most_bytes}
-use Rattle.psl.specs.Closing.{closing_nodes}
-use Rattle.formula_lines.specs.FormulaAnswer.{formula_limits}
+use Rattle.formula_lines.specs.FormulaAnswer.{table_nodes, formula_limits}
 
 -- The bytes of a line that are kept: one more than it may have, so that a longer one is seen to be.
 abbrev pub kept_bytes : ℕ
 kept_bytes = most_bytes + 1
 
--- The PSL and the LTL table of a formula that is within the limits.
-pub record TablesOf (f : Formula) (psl ltl : List ℕ) : Type 0 where
+-- The PSL and the LTL table of a written formula that is within the limits.
+pub record TablesOf (f : Written) (psl ltl : List ℕ) : Type 0 where
   pub limits : formula_limits f ≡ none
-  pub read : psl ≡ numbers_of (closing_nodes f)
-  pub translated : ltl ≡ emitted f
+  pub read : psl ≡ numbers_of (table_nodes f)
+  pub translated : ltl ≡ emitted (spelled_out f)
 
 -- Both tables pass their check.
 abbrev pub Accepted : List ℕ → List ℕ → Type 0

@@ -2,6 +2,7 @@
 use Rattle.std.specs.Prelude.{◌≡◌, ◌⊎◌, List, [], ◌∷◌, ◌++◌, ℕ, suc, Result}
 use Rattle.trace.specs.declared.refusal.Refusal.{Refusal}
 use Rattle.logic.specs.Formula.{Formula}
+use Rattle.logic.specs.Written.{Written, spelled_out}
 use Rattle.translate.specs.Emitted.{emitted}
 use Rattle.formula_lines.specs.Spelling.{formula_line}
 use Rattle.text.specs.Reading.{Takes, Refuses}
@@ -21,12 +22,13 @@ PrintsTraces f i (line ∷ ls) out =
 
 -- ── All lines ──
 
--- Line 1 spells a formula within the limits, and its emitted table is printed, then the answers to the trace lines; or line 1 is refused, and its
--- refusal is all.
+-- Line 1 spells a formula within the limits, and the emitted table of what it is spelled out to is printed, then the answers to the trace lines; or
+-- line 1 is refused, and its refusal is all.
 abbrev pub Prints : List (List ℕ) → List ℕ → Type 0
 Prints [] out = ⊥
 Prints (line ∷ ls) out =
-    ((f : Formula) × (rest : List ℕ) × Takes formula_line formula_limits line f × (out ≡ table_text (emitted f) ++ rest) × PrintsTraces f 1 ls rest)
+    ((f : Written) × (rest : List ℕ) × Takes formula_line formula_limits line f × (out ≡ table_text (emitted (spelled_out f)) ++ rest)
+    × PrintsTraces (spelled_out f) 1 ls rest)
     ⊎ ((x : Refusal) × Refuses formula_line formula_limits line x × (out ≡ refused_text 1 x))
 
 -- The run on an input prints `out`.

@@ -1,13 +1,17 @@
 -- Forms: each is read from its bytes in one way, whatever follows.
 use mathlib.Core.Path.{◌≡◌, refl, ap, sym, subst, ◌∙◌}
 use mathlib.Core.Logic.{◌⊎◌, inl, inr}
+use mathlib.Core.Bool.{true}
 use mathlib.Core.List.{List, [], ◌∷◌, ◌++◌, append_assoc, append_cancel_left, head-eq_of_cons-eq, tail-eq_of_cons-eq}
-use Prim.Native.Nat.{ℕ, zero, suc, ◌≤◌, ◌<◌}
+use Prim.Native.Nat.{ℕ, zero, suc, min, ◌≤◌, ◌<◌}
 use native.Mathlib.Omega.{arith}
-use lib.Dec.{T}
+use borrow.Author.Tests.{ltb-true}
+use lib.Dec.{T, ltb}
+use lib.ListN.{length}
+use Rattle.table.specs.Rules.{Use, unused, signal as a_signal, operand}
 use Rattle.text.specs.Text.{text}
 use Rattle.text.specs.Inner.Number.{NoDigit}
-use Rattle.formula_lines.specs.Inner.Kinds.{keyword, shape, arity, left_sort, right_sort, kinds}
+use Rattle.formula_lines.specs.Inner.Kinds.{keyword, forms, shape, arity, left_sort, right_sort, kinds}
 use Rattle.formula_lines.specs.Inner.Form.{Form, truth, signal, one, two, Sorted, OfKind, bytes, inner}
 use Rattle.text.specs.Inner.Words.{elem}
 use Rattle.formula_lines.specs.Inner.Reader.{Ended}
@@ -16,36 +20,33 @@ use Rattle.text.proofs.WordLaw.{all_elem, Distinct, word_unique}
 
 -- ── Kinds ──
 
-pub boolean-kinds : (P : ℕ → Type 0) → P 1 → P 2 → P 3 → (k : ℕ) → T (elem k (kinds 0)) → P k
-boolean-kinds P a b c = all_elem P (kinds 0) (a, (b, (c, tt)))
-
-pub formula-kinds : (P : ℕ → Type 0) → P 4 → P 5 → P 6 → P 7 → P 8 → P 9 → P 10 → (k : ℕ) → T (elem k (kinds 1)) → P k
-formula-kinds P a b c d e f g = all_elem P (kinds 1) (a, (b, (c, (d, (e, (f, (g, tt)))))))
-
--- What is known of the kinds of a sort: var alone takes no form, and none takes more than two.
+-- What is known of the kinds of a sort: each has a keyword, var alone takes no form, and none takes more than two.
 pub record KindFact (so k : ℕ) : Type 0 where
+  pub word : 0 < length (keyword k)
   pub var : arity k ≡ 0 → (k ≡ 1) × (so ≡ 0)
   pub most : arity k ≤ 2
 
-takes_forms : (so k : ℕ) → 0 < arity k → arity k ≤ 2 → KindFact so k
-takes_forms so k h g = record { var = λ e. absurd (omega arith); most = g }
+forms_most : (u : Use) → forms u ≤ 1
+forms_most unused = omega arith
+forms_most a_signal = omega arith
+forms_most (operand b) = omega arith
+
+-- A kind that has a keyword and takes a form.
+TakesForms : ℕ → Type 0
+TakesForms k = ltb 0 (min (length (keyword k)) (arity k)) ≡ true
+
+takes_forms : (so k : ℕ) → TakesForms k → KindFact so k
+unfolding TakesForms
+takes_forms so k e =
+    let h : 0 < min (length (keyword k)) (arity k) = ltb-true 0 _ e in
+    record { word = omega arith; var = λ z. absurd (omega arith); most = omega (arith, forms_most (shape k).0, forms_most (shape k).1) }
 
 pub kind_fact : (so k : ℕ) → T (elem k (kinds so)) → KindFact so k
-unfolding shape
-kind_fact zero =
-    boolean-kinds (KindFact 0)
-    (record { var = λ e. (refl, refl); most = omega arith })
-    (takes_forms 0 2 (omega arith) (omega arith))
-    (takes_forms 0 3 (omega arith) (omega arith))
-kind_fact (suc so) =
-    formula-kinds (KindFact (suc so))
-    (takes_forms (suc so) 4 (omega arith) (omega arith))
-    (takes_forms (suc so) 5 (omega arith) (omega arith))
-    (takes_forms (suc so) 6 (omega arith) (omega arith))
-    (takes_forms (suc so) 7 (omega arith) (omega arith))
-    (takes_forms (suc so) 8 (omega arith) (omega arith))
-    (takes_forms (suc so) 9 (omega arith) (omega arith))
-    (takes_forms (suc so) 10 (omega arith) (omega arith))
+unfolding shape keyword TakesForms
+kind_fact zero k m = all_elem (KindFact 0) (kinds 0) (record { word = omega arith; var = λ e. (refl, refl); most = omega arith }, (takes_forms 0 2 refl, (takes_forms 0 3 refl, tt))) k m
+kind_fact (suc so) k m =
+    takes_forms (suc so) k
+    (all_elem TakesForms (kinds 1) (refl, (refl, (refl, (refl, (refl, (refl, (refl, (refl, (refl, (refl, (refl, (refl, (refl, (refl, (refl, tt))))))))))))))) k m)
 
 kinds_distinct : (so : ℕ) → Distinct keyword (kinds so)
 unfolding keyword

@@ -1,20 +1,19 @@
--- Formulas as forms: the forms of sort 0 are the Booleans', those of sort 1 the formulas'. So no two formulas are spelled alike.
-use mathlib.Core.Path.{◌≡◌, refl, ap, sym, ◌∙◌}
-use mathlib.Core.Bool.{cond}
+-- Written formulas as forms: the forms of sort 0 are the Booleans', those of sort 1 the written formulas'. So no two are spelled alike.
+use mathlib.Core.Path.{◌≡◌, refl, ap, sym, subst, ◌∙◌}
 use mathlib.Core.List.{List, [], ◌∷◌, ◌++◌, append_assoc, append_cancel_left, tail-eq_of_cons-eq}
-use Prim.Native.Nat.{ℕ}
+use Prim.Native.Nat.{ℕ, zero, suc, ◌-◌}
 use native.Mathlib.Omega.{arith}
-use lib.Dec.{T, eqb}
-use Rattle.table.specs.Node.{Node, node}
-use Rattle.logic.specs.Formula.{BoolExpr, btrue, var, bnot, band, Formula, weak, strong, fnot, fand, next, until, abort}
-use Rattle.psl.specs.Table.{Part, boolean, formula, as_formula, part_of}
+use lib.Dec.{T}
+use lib.ListN.{get_or}
+use Rattle.logic.specs.Formula.{BoolExpr, btrue, var, bnot, band}
+use Rattle.logic.specs.Written.{Written, Weak, Strong, Not, And, Next, Until, Abort, Or, Implies, Iff, WeakNext, Eventually, Always, WeakUntil, Before}
 use Rattle.text.specs.Text.{text}
-use Rattle.formula_lines.specs.Spelling.{spell_b, spell, formula_line}
-use Rattle.psl.specs.Closing.{nodes_b, nodes}
-use Rattle.formula_lines.specs.Inner.Kinds.{keyword, shape, arity, left_sort, right_sort, kinds}
-use Rattle.formula_lines.specs.Inner.Form.{Form, truth, signal, one, two, Sorted, bytes, closed}
 use Rattle.text.specs.Inner.Words.{elem}
-use Rattle.formula_lines.proofs.FormLaw.{boolean-kinds, formula-kinds, form_unique}
+use Rattle.text.proofs.WordLaw.{all_elem}
+use Rattle.formula_lines.specs.Spelling.{spell_b, spell, formula_line}
+use Rattle.formula_lines.specs.Inner.Kinds.{keyword, shape, arity, left_sort, right_sort, kinds}
+use Rattle.formula_lines.specs.Inner.Form.{Form, truth, signal, one, two, Sorted, bytes}
+use Rattle.formula_lines.proofs.FormLaw.{form_unique}
 
 abbrev pub bool_form : BoolExpr → Form
 bool_form btrue = truth
@@ -22,14 +21,22 @@ bool_form (var k) = signal k
 bool_form (bnot b) = one 2 (bool_form b)
 bool_form (band b c) = two 3 (bool_form b) (bool_form c)
 
-abbrev pub form : Formula → Form
-form (weak b) = one 4 (bool_form b)
-form (strong b) = one 5 (bool_form b)
-form (fnot f) = one 6 (form f)
-form (fand f g) = two 7 (form f) (form g)
-form (next f) = one 8 (form f)
-form (until f g) = two 9 (form f) (form g)
-form (abort f b) = two 10 (form f) (bool_form b)
+abbrev pub form : Written → Form
+form (Weak b) = one 4 (bool_form b)
+form (Strong b) = one 5 (bool_form b)
+form (Not f) = one 6 (form f)
+form (And f g) = two 7 (form f) (form g)
+form (Next f) = one 8 (form f)
+form (Until f g) = two 9 (form f) (form g)
+form (Abort f b) = two 10 (form f) (bool_form b)
+form (Or f g) = two 11 (form f) (form g)
+form (Implies f g) = two 12 (form f) (form g)
+form (Iff f g) = two 13 (form f) (form g)
+form (WeakNext f) = one 14 (form f)
+form (Eventually f) = one 15 (form f)
+form (Always f) = one 16 (form f)
+form (WeakUntil f g) = two 17 (form f) (form g)
+form (Before f g) = two 18 (form f) (form g)
 
 -- ── Sorts ──
 
@@ -40,78 +47,23 @@ bool_sorted (var k) = refl
 bool_sorted (bnot b) = (tt, refl, bool_sorted b)
 bool_sorted (band b c) = (tt, refl, bool_sorted b, bool_sorted c)
 
-pub form-sorted : (f : Formula) → Sorted 1 (form f)
+pub form-sorted : (w : Written) → Sorted 1 (form w)
 unfolding shape
-form-sorted (weak b) = (tt, refl, bool_sorted b)
-form-sorted (strong b) = (tt, refl, bool_sorted b)
-form-sorted (fnot f) = (tt, refl, form-sorted f)
-form-sorted (fand f g) = (tt, refl, form-sorted f, form-sorted g)
-form-sorted (next f) = (tt, refl, form-sorted f)
-form-sorted (until f g) = (tt, refl, form-sorted f, form-sorted g)
-form-sorted (abort f b) = (tt, refl, form-sorted f, bool_sorted b)
-
--- ── Every form of a sort is a Boolean's or a formula's ──
-
-abbrev IsBool : Form → Type 0
-IsBool f = (b : BoolExpr) × (bool_form b ≡ f)
-
-abbrev IsFormula : Form → Type 0
-IsFormula f = (g : Formula) × (form g ≡ f)
-
-one_bool : (f : Form) → (Sorted 0 f → IsBool f) → (k : ℕ) → T (elem k (kinds 0)) → arity k ≡ 1 → Sorted (left_sort k) f → IsBool (one k f)
-unfolding shape
-one_bool f ih =
-    boolean-kinds (λ k. arity k ≡ 1 → Sorted (left_sort k) f → IsBool (one k f))
-    (λ a h. absurd (omega arith))
-    (λ a h. let (b, e) = ih h in (bnot b, ap (one 2) e))
-    (λ a h. absurd (omega arith))
-
-two_bool : (f g : Form) → (Sorted 0 f → IsBool f) → (Sorted 0 g → IsBool g)
-    → (k : ℕ) → T (elem k (kinds 0)) → arity k ≡ 2 → Sorted (left_sort k) f → Sorted (right_sort k) g → IsBool (two k f g)
-unfolding shape
-two_bool f g ih jh =
-    boolean-kinds (λ k. arity k ≡ 2 → Sorted (left_sort k) f → Sorted (right_sort k) g → IsBool (two k f g))
-    (λ a h i. absurd (omega arith))
-    (λ a h i. absurd (omega arith))
-    (λ a h i. let (b, e) = ih h in let (c, d) = jh i in (band b c, rw (e, d)))
-
-as_bool : (f : Form) → Sorted 0 f → IsBool f
-as_bool truth h = (btrue, refl)
-as_bool (signal k) h = (var k, refl)
-as_bool (one k f) (m, a, h) = one_bool f (as_bool f) k m a h
-as_bool (two k f g) (m, a, h, i) = two_bool f g (as_bool f) (as_bool g) k m a h i
-
-one_formula : (f : Form) → (Sorted 1 f → IsFormula f)
-    → (k : ℕ) → T (elem k (kinds 1)) → arity k ≡ 1 → Sorted (left_sort k) f → IsFormula (one k f)
-unfolding shape
-one_formula f ih =
-    formula-kinds (λ k. arity k ≡ 1 → Sorted (left_sort k) f → IsFormula (one k f))
-    (λ a h. let (b, e) = as_bool f h in (weak b, ap (one 4) e))
-    (λ a h. let (b, e) = as_bool f h in (strong b, ap (one 5) e))
-    (λ a h. let (g, e) = ih h in (fnot g, ap (one 6) e))
-    (λ a h. absurd (omega arith))
-    (λ a h. let (g, e) = ih h in (next g, ap (one 8) e))
-    (λ a h. absurd (omega arith))
-    (λ a h. absurd (omega arith))
-
-two-formula : (f g : Form) → (Sorted 1 f → IsFormula f) → (Sorted 1 g → IsFormula g)
-    → (k : ℕ) → T (elem k (kinds 1)) → arity k ≡ 2 → Sorted (left_sort k) f → Sorted (right_sort k) g → IsFormula (two k f g)
-unfolding shape
-two-formula f g ih jh =
-    formula-kinds (λ k. arity k ≡ 2 → Sorted (left_sort k) f → Sorted (right_sort k) g → IsFormula (two k f g))
-    (λ a h i. absurd (omega arith))
-    (λ a h i. absurd (omega arith))
-    (λ a h i. absurd (omega arith))
-    (λ a h i. let (x, e) = ih h in let (y, d) = jh i in (fand x y, rw (e, d)))
-    (λ a h i. absurd (omega arith))
-    (λ a h i. let (x, e) = ih h in let (y, d) = jh i in (until x y, rw (e, d)))
-    (λ a h i. let (x, e) = ih h in let (y, d) = as_bool g i in (abort x y, rw (e, d)))
-
-pub as_formula_lem : (f : Form) → Sorted 1 f → IsFormula f
-as_formula_lem truth h = absurd (omega arith)
-as_formula_lem (signal k) h = absurd (omega arith)
-as_formula_lem (one k f) (m, a, h) = one_formula f (as_formula_lem f) k m a h
-as_formula_lem (two k f g) (m, a, h, i) = two-formula f g (as_formula_lem f) (as_formula_lem g) k m a h i
+form-sorted (Weak b) = (tt, refl, bool_sorted b)
+form-sorted (Strong b) = (tt, refl, bool_sorted b)
+form-sorted (Not f) = (tt, refl, form-sorted f)
+form-sorted (And f g) = (tt, refl, form-sorted f, form-sorted g)
+form-sorted (Next f) = (tt, refl, form-sorted f)
+form-sorted (Until f g) = (tt, refl, form-sorted f, form-sorted g)
+form-sorted (Abort f b) = (tt, refl, form-sorted f, bool_sorted b)
+form-sorted (Or f g) = (tt, refl, form-sorted f, form-sorted g)
+form-sorted (Implies f g) = (tt, refl, form-sorted f, form-sorted g)
+form-sorted (Iff f g) = (tt, refl, form-sorted f, form-sorted g)
+form-sorted (WeakNext f) = (tt, refl, form-sorted f)
+form-sorted (Eventually f) = (tt, refl, form-sorted f)
+form-sorted (Always f) = (tt, refl, form-sorted f)
+form-sorted (WeakUntil f g) = (tt, refl, form-sorted f, form-sorted g)
+form-sorted (Before f g) = (tt, refl, form-sorted f, form-sorted g)
 
 -- ── Bytes ──
 
@@ -122,71 +74,129 @@ bool_bytes (var k) = refl
 bool_bytes (bnot b) = rw (bool_bytes b)
 bool_bytes (band b c) = rw (bool_bytes b, bool_bytes c)
 
-pub form-bytes : (f : Formula) → bytes (form f) ≡ spell f
+pub form-bytes : (w : Written) → bytes (form w) ≡ spell w
 unfolding bytes spell keyword
-form-bytes (weak b) = rw (bool_bytes b)
-form-bytes (strong b) = rw (bool_bytes b)
-form-bytes (fnot f) = rw (form-bytes f)
-form-bytes (fand f g) = rw (form-bytes f, form-bytes g)
-form-bytes (next f) = rw (form-bytes f)
-form-bytes (until f g) = rw (form-bytes f, form-bytes g)
-form-bytes (abort f b) = rw (form-bytes f, bool_bytes b)
-
--- ── Nodes ──
-
-bool_nodes : (b : BoolExpr) (ns : List Node) → closed (bool_form b) ns ≡ nodes_b b ns
-unfolding closed nodes_b
-bool_nodes btrue ns = refl
-bool_nodes (var k) ns = refl
-bool_nodes (bnot b) ns = rw (bool_nodes b ns)
-bool_nodes (band b c) ns = rw (bool_nodes b ns, bool_nodes c (nodes_b b ns))
-
-pub form-nodes : (f : Formula) (ns : List Node) → closed (form f) ns ≡ nodes f ns
-unfolding closed nodes
-form-nodes (weak b) ns = rw (bool_nodes b ns)
-form-nodes (strong b) ns = rw (bool_nodes b ns)
-form-nodes (fnot f) ns = rw (form-nodes f ns)
-form-nodes (fand f g) ns = rw (form-nodes f ns, form-nodes g (nodes f ns))
-form-nodes (next f) ns = rw (form-nodes f ns)
-form-nodes (until f g) ns = rw (form-nodes f ns, form-nodes g (nodes f ns))
-form-nodes (abort f b) ns = rw (form-nodes f ns, bool_nodes b (nodes f ns))
+form-bytes (Weak b) = rw (bool_bytes b)
+form-bytes (Strong b) = rw (bool_bytes b)
+form-bytes (Not f) = rw (form-bytes f)
+form-bytes (And f g) = rw (form-bytes f, form-bytes g)
+form-bytes (Next f) = rw (form-bytes f)
+form-bytes (Until f g) = rw (form-bytes f, form-bytes g)
+form-bytes (Abort f b) = rw (form-bytes f, bool_bytes b)
+form-bytes (Or f g) = rw (form-bytes f, form-bytes g)
+form-bytes (Implies f g) = rw (form-bytes f, form-bytes g)
+form-bytes (Iff f g) = rw (form-bytes f, form-bytes g)
+form-bytes (WeakNext f) = rw (form-bytes f)
+form-bytes (Eventually f) = rw (form-bytes f)
+form-bytes (Always f) = rw (form-bytes f)
+form-bytes (WeakUntil f g) = rw (form-bytes f, form-bytes g)
+form-bytes (Before f g) = rw (form-bytes f, form-bytes g)
 
 -- ── Back from a form ──
 
-part : Form → Part
-part truth = boolean btrue
-part (signal k) = boolean (var k)
-part (one k f) = part_of (λ i. part f) (node k 0 0)
-part (two k f g) = part_of (λ i. cond (eqb i 0) (part f) (part g)) (node k 0 1)
+-- By the kind from 4 on. An operand is read as either sort, and the kind tells which it is.
+of_kind : ℕ → Written → BoolExpr → Written → BoolExpr → Written
+of_kind k f b g c =
+    get_or (
+    Weak b
+    ∷ Strong b
+    ∷ Not f
+    ∷ And f g
+    ∷ Next f
+    ∷ Until f g
+    ∷ Abort f c
+    ∷ Or f g
+    ∷ Implies f g
+    ∷ Iff f g
+    ∷ WeakNext f
+    ∷ Eventually f
+    ∷ Always f
+    ∷ WeakUntil f g
+    ∷ Before f g
+    ∷ []
+    ) (k - 4) (Weak btrue)
 
-part_bool : (b : BoolExpr) → part (bool_form b) ≡ boolean b
-unfolding part part_of
-part_bool btrue = refl
-part_bool (var k) = refl
-part_bool (bnot b) = rw (part_bool b)
-part_bool (band b c) = rw (part_bool b, part_bool c)
+back_bool : Form → BoolExpr
+back_bool truth = btrue
+back_bool (signal k) = var k
+back_bool (one k f) = bnot (back_bool f)
+back_bool (two k f g) = band (back_bool f) (back_bool g)
 
-part-form : (f : Formula) → part (form f) ≡ formula f
-unfolding part part_of
-part-form (weak b) = rw (part_bool b)
-part-form (strong b) = rw (part_bool b)
-part-form (fnot f) = rw (part-form f)
-part-form (fand f g) = rw (part-form f, part-form g)
-part-form (next f) = rw (part-form f)
-part-form (until f g) = rw (part-form f, part-form g)
-part-form (abort f b) = rw (part-form f, part_bool b)
+back : Form → Written
+back truth = Weak btrue
+back (signal k) = Weak btrue
+back (one k f) = of_kind k (back f) (back_bool f) (back f) (back_bool f)
+back (two k f g) = of_kind k (back f) (back_bool f) (back g) (back_bool g)
 
--- ── No two formulas are spelled alike ──
+bool_back : (b : BoolExpr) → back_bool (bool_form b) ≡ b
+unfolding back_bool
+bool_back btrue = refl
+bool_back (var k) = refl
+bool_back (bnot b) = rw (bool_back b)
+bool_back (band b c) = rw (bool_back b, bool_back c)
 
-pub spell_unique : (f g : Formula) (t u : List ℕ) → spell f ++ t ≡ spell g ++ u → (f ≡ g) × (t ≡ u)
-spell_unique f g t u e =
-    let (p, q) = form_unique (form f) (form g) 1 t u (form-sorted f) (form-sorted g) (simp form-bytes e) in
-    (ap as_formula (sym (part-form f) ∙ ap part p ∙ part-form g), q)
+form-back : (w : Written) → back (form w) ≡ w
+unfolding back of_kind
+form-back (Weak b) = rw (bool_back b)
+form-back (Strong b) = rw (bool_back b)
+form-back (Not f) = rw (form-back f)
+form-back (And f g) = rw (form-back f, form-back g)
+form-back (Next f) = rw (form-back f)
+form-back (Until f g) = rw (form-back f, form-back g)
+form-back (Abort f b) = rw (form-back f, bool_back b)
+form-back (Or f g) = rw (form-back f, form-back g)
+form-back (Implies f g) = rw (form-back f, form-back g)
+form-back (Iff f g) = rw (form-back f, form-back g)
+form-back (WeakNext f) = rw (form-back f)
+form-back (Eventually f) = rw (form-back f)
+form-back (Always f) = rw (form-back f)
+form-back (WeakUntil f g) = rw (form-back f, form-back g)
+form-back (Before f g) = rw (form-back f, form-back g)
 
-pub line_unique : (f g : Formula) (t u : List ℕ) → formula_line f ++ t ≡ formula_line g ++ u → (f ≡ g) × (t ≡ u)
-line_unique f g t u e =
-    let (p, q) = spell_unique f g (41 ∷ t) (41 ∷ u) (simp append_assoc at (append_cancel_left (text "(psl ") _ _ e)) in
+-- ── Every form of a sort is a Boolean's or a written formula's ──
+
+-- There and back.
+again : ℕ → Form → Form
+again zero f = bool_form (back_bool f)
+again (suc so) f = form (back f)
+
+-- A kind with its operands comes back as that kind, by how many it has.
+abbrev Kept : ℕ → ℕ → Form → Form → ℕ → Type 0
+Kept so zero f g k = Unit {0}
+Kept so (suc zero) f g k = again so (one k f) ≡ one k (again (left_sort k) f)
+Kept so (suc (suc n)) f g k = again so (two k f g) ≡ two k (again (left_sort k) f) (again (right_sort k) g)
+
+kept : (so : ℕ) (f g : Form) (k : ℕ) → T (elem k (kinds so)) → Kept so (arity k) f g k
+unfolding again back back_bool of_kind shape
+kept zero f g = all_elem (λ k. Kept 0 (arity k) f g k) (kinds 0) (tt, (refl, (refl, tt)))
+kept (suc so) f g = all_elem (λ k. Kept (suc so) (arity k) f g k) (kinds 1) (refl, (refl, (refl, (refl, (refl, (refl, (refl, (refl, (refl, (refl, (refl, (refl, (refl, (refl, (refl, tt)))))))))))))))
+
+same : (f : Form) (so : ℕ) → Sorted so f → again so f ≡ f
+unfolding again back_bool
+same truth zero h = refl
+same truth (suc so) h = absurd (omega arith)
+same (signal k) zero h = refl
+same (signal k) (suc so) h = absurd (omega arith)
+same (one k f) so (m, a, h) = subst (λ (n : ℕ). Kept so n f f k) a (kept so f f k m) ∙ ap (one k) (same f (left_sort k) h)
+same (two k f g) so (m, a, h, i) =
+    subst (λ (n : ℕ). Kept so n f g k) a (kept so f g k m)
+    ∙ ap (λ (x : Form). two k x (again (right_sort k) g)) (same f (left_sort k) h) ∙ ap (two k f) (same g (right_sort k) i)
+
+pub as_written : (f : Form) → Sorted 1 f → (w : Written) × (form w ≡ f)
+unfolding again
+as_written f h = (back f, same f 1 h)
+
+-- ── No two written formulas are spelled alike ──
+
+pub spell_unique : (v w : Written) (t u : List ℕ) → spell v ++ t ≡ spell w ++ u → (v ≡ w) × (t ≡ u)
+spell_unique v w t u e =
+    let (p, q) = form_unique (form v) (form w) 1 t u (form-sorted v) (form-sorted w) (simp form-bytes e) in
+    (sym (form-back v) ∙ ap back p ∙ form-back w, q)
+
+pub line_unique : (v w : Written) (t u : List ℕ) → formula_line v ++ t ≡ formula_line w ++ u → (v ≡ w) × (t ≡ u)
+line_unique v w t u e =
+    let (p, q) = spell_unique v w (41 ∷ t) (41 ∷ u) (simp append_assoc at (append_cancel_left (text "(psl ") _ _ e)) in
     (p, tail-eq_of_cons-eq q)
 
-pub formula_injective : (f g : Formula) → formula_line f ≡ formula_line g → f ≡ g
-formula_injective f g e = (line_unique f g [] [] (ap (λ (x : List ℕ). x ++ []) e)).0
+pub formula_injective : (v w : Written) → formula_line v ≡ formula_line w → v ≡ w
+formula_injective v w e = (line_unique v w [] [] (ap (λ (x : List ℕ). x ++ []) e)).0

@@ -9,30 +9,32 @@ use lib.Dec.{leb}
 use lib.ListN.{length}
 use Rattle.table.specs.Node.{numbers_of}
 use Rattle.trace.specs.declared.refusal.Refusal.TheVariants.{ManyNodes, LargeSignal, ListRoom}
-use Rattle.logic.specs.Formula.{Formula}
+use Rattle.logic.specs.Written.{Written, spelled_out}
 use Rattle.psl.specs.Check.{psl_rules, psl_refusal}
 use Rattle.text.proofs.LimitsLaw.{passed, third}
-use Rattle.psl.specs.Closing.{closing_nodes, large_signal}
-use Rattle.formula_lines.specs.FormulaAnswer.{formula_limits, formula_refusal}
+use Rattle.psl.specs.Closing.{large_signal}
+use Rattle.formula_lines.specs.FormulaAnswer.{table_nodes, formula_limits, formula_refusal}
 use Rattle.psl.proofs.ClosingCheckLaw.{closing_accepted}
 
-module _ (f : Formula) where
+module _ (w : Written) where
   abbrev few : Bool
-  few = leb (length (closing_nodes f)) psl_rules.most
+  few = leb (length (table_nodes w)) psl_rules.most
 
   abbrev small : Bool
-  small = not (large_signal f)
+  small = not (large_signal (spelled_out w))
 
-  pub limits-few : formula_limits f ≡ none → length (closing_nodes f) ≤ psl_rules.most
+  pub limits-few : formula_limits w ≡ none → length (table_nodes w) ≤ psl_rules.most
   unfolding formula_limits
   limits-few e = leb-true _ _ (passed few small ManyNodes LargeSignal e).0
 
   -- The table passes the PSL check.
-  pub limits-accepted : formula_limits f ≡ none → psl_refusal (numbers_of (closing_nodes f)) ≡ none
+  pub limits-accepted : formula_limits w ≡ none → psl_refusal (numbers_of (table_nodes w)) ≡ none
   unfolding formula_limits
-  limits-accepted e = let (p, q) = passed few small ManyNodes LargeSignal e in closing_accepted f (leb-true _ _ p) (not-true (large_signal f) q)
+  limits-accepted e =
+      let (p, q) = passed few small ManyNodes LargeSignal e in
+      closing_accepted (spelled_out w) (leb-true _ _ p) (not-true (large_signal (spelled_out w)) q)
 
-  pub formula-room : (room : ℕ) → 3 * psl_rules.most ≤ room → formula_refusal room f ≡ formula_limits f
+  pub formula-room : (room : ℕ) → 3 * psl_rules.most ≤ room → formula_refusal room w ≡ formula_limits w
   unfolding formula_limits formula_refusal
   formula-room room h =
-      third few small (leb (3 * length (closing_nodes f)) room) ManyNodes LargeSignal ListRoom (λ p q. le-leb (3 * length (closing_nodes f)) room (omega (arith, leb-true (length (closing_nodes f)) psl_rules.most p)))
+      third few small (leb (3 * length (table_nodes w)) room) ManyNodes LargeSignal ListRoom (λ p q. le-leb (3 * length (table_nodes w)) room (omega (arith, leb-true (length (table_nodes w)) psl_rules.most p)))

@@ -9,50 +9,33 @@ use borrow.Author.Tests.{lt-leb, le-leb}
 use lib.ListN.{length, take, drop}
 use lib.Seq.{sets, drop-length}
 use lib.Dec.{leb}
-use Rattle.table.specs.Node.{numbers_of}
+use Rattle.table.specs.Node.{Node, numbers_of}
 use Rattle.table.proofs.NodeLaw.{length-numbers}
-use Rattle.logic.specs.Formula.{BoolExpr, btrue, var, bnot, band, Formula, weak, strong, fnot, fand, next, until, abort}
+use Rattle.logic.specs.Formula.{btrue}
+use Rattle.logic.specs.Written.{Written, Weak}
 use Rattle.std.specs.Prelude.{Ok, Err}
 use Rattle.trace.specs.declared.refusal.Refusal.{Refusal}
 use Rattle.trace.specs.declared.refusal.Refusal.TheVariants.{LongLine, Shape, ManyNodes, LargeSignal, ListRoom}
 use Rattle.psl.specs.Check.{psl_rules}
 use Rattle.text.specs.Text.{text}
 use Rattle.formula_lines.specs.Spelling.{spell, formula_line}
-use Rattle.psl.specs.Closing.{closing_nodes, large_signal_b, large_signal}
 use Rattle.text.specs.Limits.{most_bytes}
 use Rattle.text.specs.Reading.{long, breaks, spells}
-use Rattle.formula_lines.specs.FormulaAnswer.{formula_limits, formula_refusal, FormulaAnswer}
+use Rattle.formula_lines.specs.FormulaAnswer.{table_nodes, formula_limits, formula_refusal, FormulaAnswer}
 use Rattle.text.specs.Inner.Places.{Stands, Agree, Begins, Stops, StopsLine, Only}
-use Rattle.formula_lines.specs.Inner.Form.{Form, Sorted, bytes, closed, wide}
-use Rattle.formula_lines.specs.Inner.Reader.{FormOf, with_nodes, FormStands, SpellsFormula, WholeStands}
+use Rattle.formula_lines.specs.Inner.Form.{Form, Sorted, bytes, nodes_from, wide}
+use Rattle.formula_lines.specs.Inner.Writes.{Writes}
+use Rattle.formula_lines.specs.Inner.Reader.{FormOf, FormStands, SpellsFormula, WholeStands}
 use Rattle.text.proofs.PlaceLaw.{stands_join, halts-first, begins-first, halts-after, stops_line, Nothing, stops_end}
 use Rattle.text.proofs.ReadingLaw.{breaks-at, front-sets, front-take}
-use Rattle.formula_lines.proofs.FormulaLaw.{bool_form, form, form-sorted, form-bytes, form-nodes, as_formula_lem, spell_unique, line_unique}
-
--- ── Signals ──
-
-wide_bool : (b : BoolExpr) → wide (bool_form b) ≡ large_signal_b b
-unfolding wide large_signal_b
-wide_bool btrue = refl
-wide_bool (var k) = refl
-wide_bool (bnot b) = wide_bool b
-wide_bool (band b c) = rw (wide_bool b, wide_bool c)
-
-wide_large : (f : Formula) → wide (form f) ≡ large_signal f
-unfolding wide large_signal
-wide_large (weak b) = wide_bool b
-wide_large (strong b) = wide_bool b
-wide_large (fnot f) = wide_large f
-wide_large (fand f g) = rw (wide_large f, wide_large g)
-wide_large (next f) = wide_large f
-wide_large (until f g) = rw (wide_large f, wide_large g)
-wide_large (abort f b) = rw (wide_large f, wide_bool b)
+use Rattle.formula_lines.proofs.FormulaLaw.{form, form-sorted, form-bytes, as_written, spell_unique, line_unique}
+use Rattle.formula_lines.proofs.ClosingLaw.{written_closing, wide_large}
 
 -- ── The parts of the line ──
 
 -- What follows the word `psl`.
 abbrev Rest : List ℕ → Type 0
-Rest w = (f : Formula) × (w ≡ spell f ++ (41 ∷ []))
+Rest w = (f : Written) × (w ≡ spell f ++ (41 ∷ []))
 
 abbrev Psl : List ℕ → ℕ → Type 0
 Psl s = Stands (text "(psl ") s 0
@@ -62,8 +45,8 @@ not-psl a =
     stops_line (halts-first a (λ w e. (spell some ++ (41 ∷ []), (some, ap (λ (x : List ℕ). x ++ (spell some ++ (41 ∷ []))) e)))
     (λ s' g. begins-first (λ w (f, e). (text "(psl ", spell f ++ (41 ∷ []), refl, e))))
   where
-    some : Formula
-    some = weak btrue
+    some : Written
+    some = Weak btrue
 
 module _ {s : List ℕ} {start : ℕ} (o : Psl s start) where
   pub no-form : {p : ℕ} → Stops (FormOf 1) s start p → StopsLine SpellsFormula s 0 p
@@ -71,7 +54,7 @@ module _ {s : List ℕ} {start : ℕ} (o : Psl s start) where
     where
       inc : (w : List ℕ) → FormOf 1 w → (x : List ℕ) × Rest (w ++ x)
       inc w (f, sf, e) =
-          let (g, d) = as_formula_lem f sf in
+          let (g, d) = as_written f sf in
           (41 ∷ [], (g, ap (λ (x : List ℕ). x ++ (41 ∷ [])) (e ∙ ap bytes (sym d) ∙ form-bytes g)))
 
       dec : (w : List ℕ) → Rest w → Begins (FormOf 1) w
@@ -81,11 +64,11 @@ module _ {s : List ℕ} {start : ℕ} (o : Psl s start) where
       rest s' g (f, e) = (f, append_cancel_left (text "(psl ") _ _ e)
 
   module _ {f : Form} (sf : Sorted 1 f) {next nodes : ℕ} {large : Bool} {l l' : List ℕ} (a : FormStands f s start 0 next nodes large l l') where
-    abbrev g : Formula
-    g = (as_formula_lem f sf).0
+    abbrev g : Written
+    g = (as_written f sf).0
 
     same : form g ≡ f
-    same = (as_formula_lem f sf).1
+    same = (as_written f sf).1
 
     spelled : Stands (spell g) s start next
     spelled = subst (λ (w : List ℕ). Stands w s start next) (ap bytes (sym same) ∙ form-bytes g) a.stands
@@ -106,21 +89,16 @@ module _ {s : List ℕ} {start : ℕ} (o : Psl s start) where
           dec : (s' : List ℕ) → Agree (suc last) s s' → SpellsFormula (formula_line g ++ drop last s') → Nothing (drop last s')
           dec s' j (h, d) = (line_unique g h (drop last s') [] (d ∙ sym (append-nil (formula_line h)))).1
 
-      pub line_read : length s ≤ last → (f : Formula) × WholeStands f s nodes large l l'
+      pub line_read : length s ≤ last → (f : Written) × WholeStands f s nodes large l l'
       line_read z =
           let whole : last ≡ length s = omega (arith, e.within) in (
             g,
             record {
               is = line.is ∙ ap (λ (x : List ℕ). formula_line g ++ x) (ap (λ (j : ℕ). drop j s) whole ∙ drop-length s) ∙ append-nil (formula_line g);
-              counted = sym (a.counted [] refl) ∙ ap length nodes_of_lem;
-              few = omega (arith, a.few, e.after);
               signals = a.signals ∙ ap wide (sym same) ∙ wide_large g;
-              written = λ x. a.written x l [] refl refl ∙ ap (with_nodes l) nodes_of_lem;
+              writes = subst (λ (x : List Node). Writes large x 0 l nodes l') (ap (λ (x : Form). nodes_from x 0) (sym same) ∙ sym (written_closing g)) a.writes;
             },
           )
-        where
-          nodes_of_lem : closed f [] ≡ closing_nodes g
-          nodes_of_lem = ap (λ (x : Form). closed x []) (sym same) ∙ form-nodes g []
 
 -- ── The answer ──
 
@@ -131,17 +109,20 @@ pub no-formula : (s l : List ℕ) {p : ℕ} → length s ≤ most_bytes → Stop
 no-formula s l {p} h a = (record { reading = breaks h p (breaks-at (λ w x. x) (λ f. (f, refl)) a); reason = refl }, refl)
 
 -- The line spells f; a and b are the list that it was read into, before and after.
-module _ {s : List ℕ} (l : List ℕ) {f : Formula} {nodes : ℕ} {large : Bool} {a b : List ℕ} (h : length s ≤ most_bytes) (x : WholeStands f s nodes large a b) where
+module _ {s : List ℕ} (l : List ℕ) {f : Written} {nodes : ℕ} {large : Bool} {a b : List ℕ} (h : length s ≤ most_bytes) (x : WholeStands f s nodes large a b) where
   refuses : (e : Refusal) → formula_refusal (length l) f ≡ some e → FormulaAnswer s l (Err e) l
   refuses e d = (record { reading = spells h f x.is; reason = d }, refl)
 
   pub many_nodes : psl_rules.most < nodes → FormulaAnswer s l (Err ManyNodes) l
   unfolding formula_limits formula_refusal
-  many_nodes i = refuses ManyNodes (rw (lt-leb (length (closing_nodes f)) psl_rules.most (omega (arith, x.counted))))
+  many_nodes i = refuses ManyNodes (rw (lt-leb (length (table_nodes f)) psl_rules.most (omega (arith, x.writes.counts))))
 
   module _ (i : nodes ≤ psl_rules.most) where
-    few : leb (length (closing_nodes f)) psl_rules.most ≡ true
-    few = le-leb (length (closing_nodes f)) psl_rules.most (omega (arith, x.counted))
+    counted : nodes ≡ length (table_nodes f)
+    counted = omega (arith, x.writes.counts)
+
+    few : leb (length (table_nodes f)) psl_rules.most ≡ true
+    few = le-leb (length (table_nodes f)) psl_rules.most (omega (arith, counted))
 
     pub large_signal_lem : large ≡ true → FormulaAnswer s l (Err LargeSignal) l
     unfolding formula_limits formula_refusal
@@ -150,21 +131,22 @@ module _ {s : List ℕ} (l : List ℕ) {f : Formula} {nodes : ℕ} {large : Bool
     module _ (j : large ≡ false) where
       pub no_room : length l < 3 * nodes → FormulaAnswer s l (Err ListRoom) l
       unfolding formula_limits formula_refusal
-      no_room k = refuses ListRoom (rw (few, sym x.signals ∙ j, lt-leb (3 * length (closing_nodes f)) (length l) (omega (arith, x.counted))))
+      no_room k = refuses ListRoom (rw (few, sym x.signals ∙ j, lt-leb (3 * length (table_nodes f)) (length l) (omega (arith, counted))))
 
       module _ (k : 3 * nodes ≤ length l) where
         room : formula_refusal (length l) f ≡ none
         unfolding formula_limits formula_refusal
-        room = rw (few, sym x.signals ∙ j, le-leb (3 * length (closing_nodes f)) (length l) (omega (arith, x.counted)))
+        room = rw (few, sym x.signals ∙ j, le-leb (3 * length (table_nodes f)) (length l) (omega (arith, counted)))
 
         -- The table was put aside in a list with room for it, and from there into the lent list.
         pub table-read : 3 * nodes ≤ length a → (l' : List ℕ) → l' ≡ sets l 0 (take (3 * nodes) b) → FormulaAnswer s l (Ok nodes) l'
         table-read u l' e =
-            let few : 3 * nodes ≡ length (numbers_of (closing_nodes f)) = omega (arith, x.counted, length-numbers (closing_nodes f)) in
-            let aside : take (3 * nodes) b ≡ numbers_of (closing_nodes f) =
-            ap (take (3 * nodes)) (x.written j ∙ front-sets (numbers_of (closing_nodes f)) a (omega arith)) ∙ front-take (numbers_of (closing_nodes f)) a (3 * nodes) few in (
+            let ns = numbers_of (table_nodes f) in
+            let few : 3 * nodes ≡ length ns = omega (arith, counted, length-numbers (table_nodes f)) in
+            let aside : take (3 * nodes) b ≡ ns =
+            ap (take (3 * nodes)) (x.writes.writes j (omega (arith, i)) ∙ front-sets ns a (omega arith)) ∙ front-take ns a (3 * nodes) few in (
               f,
               record { short = h; is = x.is; within = room },
-              x.counted,
-              e ∙ ap (sets l 0) aside ∙ front-sets (numbers_of (closing_nodes f)) l (omega arith),
+              counted,
+              e ∙ ap (sets l 0) aside ∙ front-sets ns l (omega arith),
             )

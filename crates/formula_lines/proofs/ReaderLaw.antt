@@ -6,33 +6,26 @@ use mathlib.Core.List.{List, [], ◌∷◌, ◌++◌, append_assoc, append-nil, 
 use Prim.Native.Nat.{ℕ, zero, suc, ◌+◌, ◌*◌, ◌-◌, ◌≤◌}
 use native.Mathlib.Omega.{arith}
 use borrow.Author.Tests.{le-leb, lt-leb}
-use lib.ListN.{length, drop, length-append}
+use lib.ListN.{drop}
 use lib.Seq.{sets}
 use lib.Dec.{T, leb}
 use Rattle.std.specs.Prelude.{Option, Some, None, unwrap_or, is_some}
 use Rattle.logic.specs.Letter.{signals}
-use Rattle.table.specs.Node.{Node, node, numbers_of, ◌▸◌, last}
-use Rattle.table.proofs.NodeLaw.{length-numbers}
 use Rattle.text.specs.Text.{text}
 use Rattle.text.specs.Spelling.{digits}
 use Rattle.text.specs.Inner.Places.{Stands, Agree, Language, Begins, Halts, Stops, Only}
 use Rattle.text.specs.Inner.Number.{Numeral, Numbered}
 use Rattle.text.specs.Inner.Scan.{Counts, NumberStands}
 use Rattle.formula_lines.specs.Inner.Kinds.{keyword, arity, left_sort, right_sort, kinds}
-use Rattle.formula_lines.specs.Inner.Form.{Form, truth, signal, one, two, Sorted, OfKind, bytes, inner, closed, wide}
+use Rattle.formula_lines.specs.Inner.Writes.{Writes, leaf, ahead}
+use Rattle.formula_lines.specs.Inner.Form.{Form, truth, signal, one, two, Sorted, OfKind, bytes, inner, nodes_from, wide}
 use Rattle.text.specs.Inner.Words.{elem}
-use Rattle.formula_lines.specs.Inner.Reader.{KeywordOf, NoneOf, InBrackets, FormOf, OperandsOf, with_nodes, FormStands, Ended, OperandsStand}
+use Rattle.formula_lines.specs.Inner.Reader.{KeywordOf, NoneOf, PutBetween, ClosesOne, TwoStand, ClosesTwo, InBrackets, FormOf, OperandsOf, FormStands, Ended, OperandsStand}
 use Rattle.text.proofs.PlaceLaw.{agree_less, stands_join, stands_end, stops_first, halts-first, begins-first, halts-after}
 use Rattle.text.proofs.ScanLaw.{no-digit-agree}
-use Rattle.table.proofs.StoreLaw.{sets-sets, numbers_more}
+use Rattle.formula_lines.proofs.WritesLaw.{writes-where}
 use Rattle.formula_lines.proofs.FormLaw.{View, view, kind_fact, kind-sorted, kind-bytes, none_of, one_of, two_of, form_unique, operands_unique, sample, sample_sorted, sample_open, kind_sample, open_bytes, word-kind, var-arity}
 use Rattle.std.proofs.lemmas.Bool.{or_parts}
-
--- ── The lent list ──
-
-with_nodes-more : (l : List ℕ) (ns : List Node) (n k a b : ℕ) → length ns ≡ n → sets (with_nodes l ns) (3 * n) (k ∷ a ∷ b ∷ []) ≡ with_nodes l (ns ▸ node k a b)
-with_nodes-more l ns n k a b e =
-    sets-sets (numbers_of ns) (k ∷ a ∷ b ∷ []) l 0 (3 * n) (omega (arith, length-numbers ns)) ∙ ap (sets l 0) (sym (numbers_more ns k a b))
 
 some-form : (so : ℕ) → FormOf so (bytes (sample so))
 some-form so = (sample so, sample_sorted so, refl)
@@ -65,20 +58,10 @@ module _ {s : List ℕ} {at : ℕ} (z : Stops (Only 40) s at at) where
               (z.none s' (agree_less (omega (arith, a.after)) g)
               (40 ∷ [], keyword b.kind ++ (inner f ++ (41 ∷ t)), refl, i ∙ ap (λ (x : List ℕ). x ++ t) d ∙ open_bytes f b.kind t b.is))
 
-pub true-stands : (s : List ℕ) (at n p : ℕ) (l l' : List ℕ) → n ≤ at → Stands (text "true") s at p
-    → l' ≡ sets l (3 * n) (0 ∷ 0 ∷ 0 ∷ []) → FormStands truth s at n p (n + 1) false l l'
-unfolding bytes closed wide
-true-stands s at n p l l' h a d =
-    let e : p ≡ at + 4 = stands_end a in
-    record {
-      stands = a;
-      more = omega arith;
-      grows = omega arith;
-      few = omega arith;
-      counted = λ ns c. length-append ns (node 0 0 0 ∷ []) ∙ ap (λ (m : ℕ). m + 1) c;
-      signals = refl;
-      written = λ _ l₀ ns c f. d ∙ ap (λ (x : List ℕ). sets x (3 * n) (0 ∷ 0 ∷ 0 ∷ [])) f ∙ with_nodes-more l₀ ns n 0 0 0 c;
-    }
+pub true-stands : {s : List ℕ} {at n p m : ℕ} {l l' : List ℕ} → Stands (text "true") s at p → Writes false (leaf 0 0 n) n l m l'
+    → FormStands truth s at n p m false l l'
+unfolding bytes nodes_from wide
+true-stands a w = let i = stands_end a in record { stands = a; more = omega arith; signals = refl; writes = w }
 
 -- ── A signal ──
 
@@ -94,31 +77,26 @@ signal-no a = halts-first a (λ w (n, e). (41 ∷ [], (signal n, refl, ap (λ (x
           d ∙ ap (λ (y : List ℕ). y ++ t) (e ∙ ap (λ (g : Form). inner g ++ (41 ∷ [])) i) ∙ append_assoc (digits n) (41 ∷ []) t,
         )
 
-module _ (s : List ℕ) (at n next v : ℕ) (l : List ℕ) (h : n ≤ at) (a : NumberStands v s at next) where
+module _ {s : List ℕ} {at n next v m : ℕ} {l l' : List ℕ} (a : NumberStands v s at next) where
   -- left holds the signal where it is not too large.
-  signal-stands : (left : ℕ) (large : Bool) → large ≡ leb signals v → (large ≡ false → left ≡ v)
-      → OperandsStand (signal v) s at n next n 1 left 0 large l l
-  unfolding closed wide
-  signal-stands left large b c =
+  signal-stands : (left : ℕ) (large : Bool) → Writes false (leaf 1 left n) n l m l' → large ≡ leb signals v → (large ≡ false → left ≡ v)
+      → OperandsStand (signal v) s at n next m large l l'
+  unfolding nodes_from wide
+  signal-stands left large w b c =
       record {
         stands = a.stands;
         ended = a.ends;
         more = a.more;
-        grows = omega arith;
-        few = omega (arith, a.more);
-        counted = λ ns e. length-append ns (node 1 v 0 ∷ []) ∙ ap (λ (m : ℕ). m + 1) e;
         signals = b;
-        written = λ x l₀ ns e d.
-            ap (λ (y : List ℕ). sets y (3 * n) (1 ∷ left ∷ 0 ∷ [])) d
-            ∙ ap (λ (i : ℕ). sets (with_nodes l₀ ns) (3 * n) (1 ∷ i ∷ 0 ∷ [])) (c x) ∙ with_nodes-more l₀ ns n 1 v 0 e;
+        writes = record { counts = w.counts; writes = λ x h. w.writes refl h ∙ ap (λ (i : ℕ). sets l (3 * n) (1 ∷ i ∷ 0 ∷ [])) (c x) };
       }
 
-  pub signal_read : (m : Option ℕ) (large : Bool) → is_some m ≡ not large → Counts (signals - 1) v m
-      → (f : Form) × OfKind 1 f × OperandsStand f s at n next n 1 (unwrap_or m 0) 0 large l l
-  signal_read (Some w) false e g = (signal v, refl, signal-stands w false (sym (lt-leb signals v (omega (arith, g.0, g.1)))) (λ _. sym g.0))
-  signal_read (Some w) true e g = cc
-  signal_read None true e g = (signal v, refl, signal-stands 0 true (sym (le-leb signals v (omega (arith, g)))) (λ i. cc))
-  signal_read None false e g = cc
+  pub signal_read : (o : Option ℕ) (large : Bool) → Writes false (leaf 1 (unwrap_or o 0) n) n l m l' → is_some o ≡ not large → Counts (signals - 1) v o
+      → (f : Form) × OfKind 1 f × OperandsStand f s at n next m large l l'
+  signal_read (Some i) false w e g = (signal v, refl, signal-stands i false w (sym (lt-leb signals v (omega (arith, g.0, g.1)))) (λ _. sym g.0))
+  signal_read (Some i) true w e g = cc
+  signal_read None true w e g = (signal v, refl, signal-stands 0 true w (sym (le-leb signals v (omega (arith, g)))) (λ i. cc))
+  signal_read None false w e g = cc
 
 -- ── A form in brackets ──
 
@@ -167,8 +145,7 @@ module _ {s : List ℕ} {at so k next : ℕ} (E : Entered s at so k next) where
           let (h, i) = word-kind so k m f sf (drop next s') t (d ∙ ap (λ (y : List ℕ). y ++ t) e) in
           (inner f ++ (41 ∷ []), t, (f, h, refl), i ∙ sym (append_assoc (inner f) (41 ∷ []) t))
 
-  module _ {f : Form} (h : OfKind k f) {n end nodes left right : ℕ} {large : Bool} {l l' : List ℕ}
-      (b : OperandsStand f s next n end nodes k left right large l l') where
+  module _ {f : Form} (h : OfKind k f) {n end nodes : ℕ} {large : Bool} {l l' : List ℕ} (b : OperandsStand f s next n end nodes large l l') where
     pub no_bracket : {p : ℕ} → Stops (Only 41) s end p → Stops (FormOf so) s at p
     no_bracket {p} shut = no_operands (halts-after b.stands shut inc dec)
       where
@@ -188,22 +165,30 @@ module _ {s : List ℕ} {at so k next : ℕ} (E : Entered s at so k next) where
             (d ∙ ap (λ (y : List ℕ). y ++ t) e ∙ append_assoc (inner x) (41 ∷ []) t) in
             (41 ∷ [], t, refl, u)
 
-    pub closes : {last : ℕ} → Stands (41 ∷ []) s end last → (l'' : List ℕ) → l'' ≡ sets l' (3 * nodes) (k ∷ left ∷ right ∷ [])
-        → (f : Form) × Sorted so f × FormStands f s at n last (nodes + 1) large l l''
-    closes {last} q l'' w =
+    pub closes : {last : ℕ} → Stands (41 ∷ []) s end last → (f : Form) × Sorted so f × FormStands f s at n last nodes large l l'
+    closes {last} q =
         let e : last ≡ end + 1 = stands_end q in (
           f,
           kind-sorted f k so m h,
           record {
             stands = subst (λ (y : List ℕ). Stands y s at last) (simp append_assoc (sym (kind-bytes f k h))) (stands_join (stands_join (stands_join E.opened E.named) b.stands) q);
             more = omega (arith, b.more, E.opened.after, E.named.after);
-            grows = omega (arith, b.grows);
-            few = omega (arith, b.few);
-            counted = b.counted;
             signals = b.signals;
-            written = λ x l₀ ns c d. w ∙ b.written x l₀ ns c d;
+            writes = b.writes;
           },
         )
+
+-- ── Once more ──
+
+-- Where a form stands it is read, and it alone.
+pub reads : {s : List ℕ} {at next p : ℕ} (f : Form) (so : ℕ) → Sorted so f → Stands (bytes f) s at next → Stops (FormOf so) s at p → ⊥
+reads {s} {next = next} f so sf a z = z.none s (record { is = refl }) (bytes f, drop next s, (f, sf, refl), a.is)
+
+pub read-again : {s : List ℕ} {at n next last nodes : ℕ} {large : Bool} {l l' : List ℕ} (b : Bool) (f g : Form) (so : ℕ) → Sorted so f → Stands (bytes f) s at next
+    → (b ≡ false → wide f ≡ false) → Sorted so g → FormStands g s at n last nodes large l l' → Writes b (nodes_from f n) n l nodes l'
+read-again {s} {n = n} {next} {last} {nodes} {l = l} {l'} b f g so sf a small sg c =
+    let e : f ≡ g = (form_unique f g so (drop next s) (drop last s) sf sg (sym a.is ∙ c.stands.is)).0 in
+    subst (λ (x : Form). Writes b (nodes_from x n) n l nodes l') (sym e) (writes-where (λ x. c.signals ∙ ap wide (sym e) ∙ small x) c.writes)
 
 -- ── Operands ──
 
@@ -241,24 +226,19 @@ module _ {s : List ℕ} {at : ℕ} (k : ℕ) where
               (bytes g, 32 ∷ (bytes x ++ (41 ∷ [])), (g, sg, refl), d ∙ ap (λ (y : List ℕ). y ++ (41 ∷ [])) u ∙ append_assoc (bytes g) (32 ∷ bytes x) (41 ∷ []))
 
   module _ {f : Form} (sf : Sorted (left_sort k) f) {n next nodes : ℕ} {large : Bool} {l l' : List ℕ} (a : FormStands f s at n next nodes large l l') where
-    pub one-stands : arity k ≡ 1 → (g : Form) × OfKind k g × OperandsStand g s at n next nodes k (nodes - 1) 0 large l l'
-    unfolding closed wide
-    one-stands e = (
+    -- The operand began at node n, behind what the kind has before it.
+    pub one-stands : arity k ≡ 1 → {first m : ℕ} {l₀ l₁ : List ℕ} → Writes false (ahead k first) first l₀ n l → ClosesOne k n nodes l' m l₁
+        → (g : Form) × OfKind k g × OperandsStand g s at first next m large l₀ l₁
+    unfolding nodes_from wide
+    one-stands e {first} {l₀ = l₀} u c = (
       one k f,
       (refl, e, sf),
       record {
         stands = a.stands;
         ended = tt;
         more = a.more;
-        grows = omega (arith, a.grows);
-        few = a.few;
-        counted = λ ns c. length-append (closed f ns) _ ∙ ap (λ (m : ℕ). m + 1) (a.counted ns c);
         signals = a.signals;
-        written = λ x l₀ ns c d.
-            let i = a.counted ns c in
-            ap (λ (y : List ℕ). sets y (3 * nodes) (k ∷ (nodes - 1) ∷ 0 ∷ [])) (a.written x l₀ ns c d)
-            ∙ with_nodes-more l₀ (closed f ns) nodes k (nodes - 1) 0 i
-            ∙ ap (λ (j : ℕ). with_nodes l₀ (closed f ns ▸ node k (j - 1) 0)) (sym i);
+        writes = c large (nodes_from f) first l₀ l (writes-where (λ _. refl) u) a.writes;
       },
     )
 
@@ -293,28 +273,33 @@ module _ {s : List ℕ} {at : ℕ} (k : ℕ) where
             dec (w, t, (g, sg, d), u) =
                 (bytes g, 41 ∷ t, (g, sg, refl), tail-eq_of_cons-eq (u ∙ ap (λ (y : List ℕ). y ++ t) d) ∙ append_assoc (bytes g) (41 ∷ []) t)
 
-        pub two_stand : {g : Form} → Sorted (right_sort k) g → {end all : ℕ} {more : Bool} {l'' : List ℕ}
-            → FormStands g s mid nodes end all more l' l'' → (b : Bool) → b ≡ (large || more)
-            → (x : Form) × OfKind k x × OperandsStand x s at n end all k (nodes - 1) (all - 1) b l l''
-        unfolding closed wide
-        two_stand {g} sg {end} {all} {more} {l''} c b u = (
-          two k f g,
-          (refl, e, sf, sg),
-          record {
-            stands = stands_join a.stands (stands_join o c.stands);
-            ended = tt;
-            more = omega (arith, a.more, o.after, c.more);
-            grows = omega (arith, a.grows, c.grows);
-            few = c.few;
-            counted = λ ns i. length-append (closed g (closed f ns)) _ ∙ ap (λ (m : ℕ). m + 1) (c.counted (closed f ns) (a.counted ns i));
-            signals = u ∙ ap (λ (y : Bool). y || more) a.signals ∙ ap (λ (y : Bool). wide f || y) c.signals;
-            written = λ x l₀ ns i d.
-                let (p, q) = or_parts large more (sym u ∙ x) in
-                let j = a.counted ns i in
-                let r = c.counted (closed f ns) j in
-                ap (λ (y : List ℕ). sets y (3 * all) (k ∷ (nodes - 1) ∷ (all - 1) ∷ [])) (c.written q l₀ (closed f ns) j (a.written p l₀ ns i d))
-                ∙ with_nodes-more l₀ (closed g (closed f ns)) all k (nodes - 1) (all - 1) r
-                ∙ ap (λ (m : ℕ). with_nodes l₀ (closed g (closed f ns) ▸ node k (m - 1) (all - 1))) (sym j)
-                ∙ ap (λ (m : ℕ). with_nodes l₀ (closed g (closed f ns) ▸ node k (last (closed f ns)) (m - 1))) (sym r);
-          },
-        )
+        -- The second operand began at node `start`, behind what the kind has between the two.
+        pub two_stand : {g : Form} → Sorted (right_sort k) g → {start end all q : ℕ} {more : Bool} {l₁ l₂ l₃ : List ℕ} → PutBetween k nodes l' start l₁
+            → FormStands g s mid start end all more l₁ l₂ → (b : Bool) → b ≡ (large || more) → ClosesTwo k s at mid start all l₂ q l₃
+            → (x : Form) × OfKind k x × OperandsStand x s at n end q b l l₃
+        unfolding nodes_from wide
+        two_stand {g} sg {end = end} {more = more} {l₁} u c b d closed =
+            let small : b ≡ false → (large ≡ false) × (more ≡ false) = λ x. or_parts large more (sym d ∙ x) in
+            let T : TwoStand k b f g s at mid =
+            record {
+              two = e;
+              sorted = (sf, sg);
+              next = next;
+              first = a.stands;
+              last = end;
+              second = c.stands;
+              small = λ x. (sym a.signals ∙ (small x).0, sym c.signals ∙ (small x).1);
+            } in (
+              two k f g,
+              (refl, e, sf, sg),
+              record {
+                stands = stands_join a.stands (stands_join o c.stands);
+                ended = tt;
+                more = omega (arith, a.more, o.after, c.more);
+                signals = d ∙ ap (λ (y : Bool). y || more) a.signals ∙ ap (λ (y : Bool). wide f || y) c.signals;
+                writes =
+                    closed b f g n l l₁ T
+                    (u b (nodes_from f) n l (writes-where (λ x. (small x).0) a.writes))
+                    (writes-where (λ x. (small x).1) c.writes);
+              },
+            )

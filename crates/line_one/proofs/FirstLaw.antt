@@ -6,7 +6,7 @@ use lib.ListN.{length, take, drop}
 use lib.Seq.{take_at}
 use Rattle.std.specs.Prelude.{Ok}
 use Rattle.std.specs.List.{refill}
-use Rattle.logic.specs.Formula.{Formula}
+use Rattle.logic.specs.Written.{Written}
 use Rattle.psl.specs.Check.{psl_rules}
 use Rattle.translate.specs.Answer.{Delivers}
 use Rattle.text.specs.Reading.{Takes}
@@ -20,7 +20,7 @@ pub cut : (xs ws : List ℕ) {items : List ℕ} (n : ℕ) → length ws ≡ leng
 cut xs ws n h e = e ∙ ap (take n) (take_at ws (drop (length ws) xs) (length xs) h)
 
 pub tables : (line l m k k' : List ℕ) {t psl ltl : List ℕ} (n s : ℕ) → length l ≡ 3 * psl_rules.most → FormulaAnswer line l (Ok n) m → Delivers t k (Ok s) k'
-    → t ≡ take (3 * n) m → psl ≡ take (3 * n) m → ltl ≡ take (3 * s) k' → (f : Formula) × Takes formula_line formula_limits line f × TablesOf f psl ltl
+    → t ≡ take (3 * n) m → psl ≡ take (3 * n) m → ltl ≡ take (3 * s) k' → (f : Written) × Takes formula_line formula_limits line f × TablesOf f psl ltl
 tables line l m k k' n s room a d e p q =
     let (f, t, b) = answers.first_tables line l m room n a (subst (λ (x : List ℕ). Delivers x k (Ok s) k') e d) in
     (f, t, rw (p, q) b)

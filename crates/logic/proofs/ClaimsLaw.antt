@@ -16,6 +16,9 @@ use Rattle.logic.proofs.KnownVerdictsLaw.{known_verdicts}
 use Rattle.logic.proofs.BorderFactsLaw.{border_facts}
 use Rattle.logic.proofs.StepLaw.{until_step}
 use Rattle.logic.proofs.TranslationLaw.{translated-holds}
+use Rattle.logic.proofs.DecideLaw.{either, decided_ltl, decided_on}
+use Rattle.logic.proofs.ShortLaw.{short_forms}
+use Rattle.logic.proofs.BeyondLaw.{beyond_traces}
 
 looping : (lead loop : List ℕ) (m : ℕ) → 0 < length loop → InTrace (letter_at lead loop) m
 looping lead loop m h = go (dec_lt m (length lead))
@@ -47,4 +50,8 @@ claims =
       border_facts = border_facts;
       until_step = until_step;
       keeps = translated-holds;
+      decided_at = λ x lead loop i. either (decided_ltl x lead loop i);
+      decided_on = λ f lead loop. either (decided_on f lead loop);
+      short_forms = short_forms;
+      beyond_traces = beyond_traces;
     }

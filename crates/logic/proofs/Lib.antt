@@ -1,4 +1,5 @@
 pub mod TestLaw
+pub mod SearchLaw
 pub mod BitLaw
 pub mod MomentsLaw
 pub mod WordLaw
@@ -11,4 +12,10 @@ pub mod StepLaw
 pub mod MarkedLaw
 pub mod KeepsLaw
 pub mod TranslationLaw
+pub mod PeriodLaw
+pub mod SuffixLaw
+pub mod DecideLaw
+pub mod ShortLaw
+pub mod EndedLaw
+pub mod BeyondLaw
 pub mod ClaimsLaw

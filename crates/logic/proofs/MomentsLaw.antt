@@ -1,16 +1,17 @@
 -- Laws of the letters of a trace: by the list that a moment falls in, going round the loop, and what can be searched.
 use Prim.Native.Nat.{ℕ, zero, suc, ◌+◌, ◌-◌, ◌%◌, ◌≤◌, ◌<◌}
 use mathlib.Core.Path.{◌≡◌, refl, ap, subst, ◌∙◌}
-use mathlib.Core.Bool.{Bool, true, false}
+use mathlib.Core.Bool.{Bool}
 use mathlib.Core.Logic.{◌⊎◌, inl, inr}
 use mathlib.Core.Option.{Option, none, some}
 use mathlib.Core.List.{List, [], ◌∷◌}
 use native.Mathlib.Omega.{arith}
 use native.Mathlib.Nat.{add-mod_right, zero-add, suc-add}
-use native.Mathlib.Decide.{dec_lt}
 use lib.Dec.{T}
 use lib.ListN.{length, get_or}
 use Rattle.logic.specs.Trace.{Trace, letter_at, size, Has, InTrace}
+use Rattle.logic.proofs.TestLaw.{decided_test}
+use Rattle.logic.proofs.SearchLaw.{earliest_ever}
 
 -- ── By the list that a moment falls in ──
 
@@ -49,6 +50,10 @@ pub letter_of : (o : Option ℕ) → Has o → (x : ℕ) × (o ≡ some x)
 letter_of none h = absurd h
 letter_of (some x) h = (x, refl)
 
+pub outside : (o : Option ℕ) → (Has o → ⊥) → o ≡ none
+outside none h = refl
+outside (some x) h = absurd (h tt)
+
 -- A trace that is not empty has a first moment.
 pub starts : (lead loop : List ℕ) → 0 < size lead loop → InTrace (letter_at lead loop) 0
 unfolding letter_at
@@ -74,15 +79,15 @@ gapless [] (y ∷ loop) m h = tt
 -- ── Going round ──
 
 -- The length of a turn round the loop; past a finite end every step is a turn.
-abbrev turn : List ℕ → ℕ
+abbrev pub turn : List ℕ → ℕ
 turn [] = 1
 turn (y ∷ loop) = length (y ∷ loop)
 
-turn_pos : (loop : List ℕ) → 0 < turn loop
+pub turn_pos : (loop : List ℕ) → 0 < turn loop
 turn_pos [] = omega arith
 turn_pos (y ∷ loop) = omega arith
 
-turned : (lead loop : List ℕ) (m : ℕ) → length lead ≤ m → letter_at lead loop (m + turn loop) ≡ letter_at lead loop m
+pub turned : (lead loop : List ℕ) (m : ℕ) → length lead ≤ m → letter_at lead loop (m + turn loop) ≡ letter_at lead loop m
 unfolding letter_at
 turned (x ∷ lead) loop zero h = absurd (omega arith)
 turned (x ∷ lead) loop (suc m) h =
@@ -105,45 +110,16 @@ Never p t i = (k : ℕ) → i ≤ k → passes p (t k) → ⊥
 abbrev pub Searchable : Trace → Type 0
 Searchable t = (p : ℕ → Bool) (i : ℕ) → Sometime p t i ⊎ Never p t i
 
-decided : (p : ℕ → Bool) (o : Option ℕ) → passes p o ⊎ (passes p o → ⊥)
-decided p none = inr (λ h. h)
-decided p (some x) = go (p x)
-  where
-    go : (b : Bool) → T b ⊎ (T b → ⊥)
-    go true = inl tt
-    go false = inr (λ h. h)
-
--- Among the n moments from i on.
-near : (p : ℕ → Bool) (t : Trace) (i n : ℕ) → Sometime p t i ⊎ ((k : ℕ) → i ≤ k → k < i + n → passes p (t k) → ⊥)
-near p t i zero = inr (λ k h g u. omega arith)
-near p t i (suc n) = go (near p t i n) (decided p (t (i + n)))
-  where
-    go : Sometime p t i ⊎ ((k : ℕ) → i ≤ k → k < i + n → passes p (t k) → ⊥) → passes p (t (i + n)) ⊎ (passes p (t (i + n)) → ⊥)
-        → Sometime p t i ⊎ ((k : ℕ) → i ≤ k → k < i + suc n → passes p (t k) → ⊥)
-    go (inl h) d = inl h
-    go (inr h) (inl u) = inl (i + n, omega arith, u)
-    go (inr h) (inr d) = inr (λ k l g u. last k l g u (dec_lt k (i + n)))
-      where
-        last : (k : ℕ) → i ≤ k → k < i + suc n → passes p (t k) → Dec (k < i + n) → ⊥
-        last k l g u (yes b) = h k l b u
-        last k l g u (no b) = d (subst (λ (j : ℕ). passes p (t j)) (omega arith) u)
+decided : (p : ℕ → Bool) (o : Option ℕ) → Dec (passes p o)
+decided p none = no (λ h. h)
+decided p (some x) = decided_test (p x)
 
 -- A search needs to look no further than the lead-in and one turn.
 pub searchable : (lead loop : List ℕ) → Searchable (letter_at lead loop)
-searchable lead loop p i = go (near p (letter_at lead loop) i (length lead + turn loop))
-  where
-    go : Sometime p (letter_at lead loop) i ⊎ ((k : ℕ) → i ≤ k → k < i + (length lead + turn loop) → passes p (letter_at lead loop k) → ⊥)
-        → Sometime p (letter_at lead loop) i ⊎ Never p (letter_at lead loop) i
-    go (inl h) = inl h
-    go (inr h) = inr (λ k l u. far (suc k) k (omega arith) l u)
-      where
-        far : (m k : ℕ) → k < m → i ≤ k → passes p (letter_at lead loop k) → ⊥
-        far zero k g l u = omega arith
-        far (suc m) k g l u = back (dec_lt k (i + (length lead + turn loop))) (far m (k - turn loop))
-          where
-            back : Dec (k < i + (length lead + turn loop))
-                → (k - turn loop < m → i ≤ k - turn loop → passes p (letter_at lead loop (k - turn loop)) → ⊥) → ⊥
-            back (yes b) rec = h k l b u
-            back (no b) rec =
-                rec (omega (arith, turn_pos loop)) (omega arith)
-                (subst (passes p) (ap (letter_at lead loop) (omega arith) ∙ turned lead loop (k - turn loop) (omega arith)) u)
+searchable lead loop p i =
+    let t : Trace = letter_at lead loop in
+    let back : (k : ℕ) → length lead ≤ k → passes p (t (k + turn loop)) → passes p (t k) = λ k l. subst (passes p) (turned lead loop k l) in
+    elim (earliest_ever (λ k. passes p (t k)) (length lead) (turn loop) (turn_pos loop) back i (λ k. decided p (t k))) [
+      | inl (k, b, E) ↦ inl (k, E.from, E.holds)
+      | inr never ↦ inr never
+    ]

@@ -43,7 +43,7 @@ below-dual w v p k = go (p k)
     go (high q) = low (λ l h. ap flip (q l h))
     go (same e) = same (ap flip (sym e))
 
-cond_top : (c : Bool) (s : Slot) → s ≡ top → cond c s top ≡ top
+pub cond_top : (c : Bool) (s : Slot) → s ≡ top → cond c s top ≡ top
 cond_top true s e = e
 cond_top false s e = refl
 

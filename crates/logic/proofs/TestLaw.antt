@@ -1,7 +1,11 @@
--- Claims that a test decides: not, and, or of them.
+-- Claims that a test decides: that they are decided; not, and, or of them.
 use mathlib.Core.Logic.{◌⊎◌, inl, inr, ◌↔◌}
 use mathlib.Core.Bool.{Bool, true, false, not, ◌&&◌, ◌||◌}
 use lib.Dec.{T}
+
+pub decided_test : (b : Bool) → Dec (T b)
+decided_test true = yes tt
+decided_test false = no (λ h. h)
 
 pub not_iff : {A : Type 0} (x : Bool) → A ↔ T x → (A → ⊥) ↔ T (not x)
 not_iff true e = (λ h. h (e.1 tt), λ h. absurd h)

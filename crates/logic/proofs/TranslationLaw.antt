@@ -13,16 +13,12 @@ use Rattle.logic.specs.Formula.{Formula}
 use Rattle.logic.specs.Meaning.{Holds, HoldsOn}
 use Rattle.logic.specs.LtlMeaning.{LtlHolds, LtlHoldsOn}
 use Rattle.logic.specs.Translation.{falsum, translation}
-use Rattle.logic.proofs.MomentsLaw.{Gapless, gapless, inside-before, letter_of, starts, searchable}
+use Rattle.logic.proofs.MomentsLaw.{Gapless, gapless, inside-before, letter_of, outside, starts, searchable}
 use Rattle.logic.proofs.MarkedLaw.{Test, mark, onward, marked}
 use Rattle.logic.proofs.KeepsLaw.{Says, keeps}
 
 never : Test
 never x = false
-
-outside : (o : Option ℕ) → (Has o → ⊥) → o ≡ none
-outside none h = refl
-outside (some x) h = absurd (h tt)
 
 -- With falsum to accept or reject the marked word is the trace's.
 unmarked : (t : Trace) → Gapless t → (k i : ℕ) → marked never never t i k ≡ slot_of (t (i + k))

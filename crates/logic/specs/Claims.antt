@@ -11,6 +11,7 @@ use Rattle.logic.specs.Tree.{Ltl, luntil}
 use Rattle.logic.specs.LtlMeaning.{LtlHolds, LtlHoldsOn}
 use Rattle.logic.specs.BorderFacts.{BorderFacts}
 use Rattle.logic.specs.Translation.{translation}
+use Rattle.logic.specs.ShortForms.{ShortForms, BeyondTraces}
 
 pub record Claims : Type 0 where
   -- On a trace with a loop every moment is inside; on a finite one the moments below its length are, and no others.
@@ -36,3 +37,9 @@ pub record Claims : Type 0 where
   -- Demand 3, of trees: on every trace that is not empty, finite or looping, of any letters and any length, a formula holds by the PSL meaning
   -- exactly when its translation holds by the LTL meaning.
   pub keeps : (f : Formula) (lead loop : List ℕ) → 0 < size lead loop → HoldsOn f lead loop ↔ LtlHoldsOn (translation f) lead loop
+  -- Whether a tree holds at a moment of a trace is decided, and so is whether a formula holds on a trace.
+  pub decided_at : (x : Ltl) (lead loop : List ℕ) (i : ℕ) → LtlHolds x (letter_at lead loop) i ⊎ (LtlHolds x (letter_at lead loop) i → ⊥)
+  pub decided_on : (f : Formula) (lead loop : List ℕ) → HoldsOn f lead loop ⊎ (HoldsOn f lead loop → ⊥)
+  -- What the short forms of a supplier's formula say on a trace, and on a word with TOP or BOTTOM.
+  pub short_forms : ShortForms
+  pub beyond_traces : BeyondTraces

@@ -10,7 +10,7 @@ use lib.ListN.{length, take, length-append}
 use Rattle.std.specs.Prelude.{Result, Ok, Err}
 use Rattle.trace.specs.declared.refusal.Refusal.{Refusal}
 use Rattle.table.specs.Node.{◌▸◌}
-use Rattle.logic.specs.Formula.{Formula}
+use Rattle.logic.specs.Written.{Written, spelled_out}
 use Rattle.translate.specs.Emitted.{emitted}
 use Rattle.text.specs.Limits.{most_bytes}
 use Rattle.text.proofs.ReadingLaw.{takes-cut, refuses-cut}
@@ -93,7 +93,7 @@ module _ (read done : List ℕ) (s r : Run) (number : r.number ≡ s.number + 1)
               counted = number ∙ ap (λ (k : ℕ). k + 1) g.counted ∙ omega (arith, ap length none.0) ∙ ap (λ (ls : List (List ℕ)). 1 + length ls) (sym ended);
               kept = kept-none;
               printed = subst (λ (ls : List (List ℕ)). PrintedSoFar ls (done ++ r.out.items) r.stage) (sym ended)
-                  (f, [], a, subst (Stores f) (sym e) b, text ∙ out ∙ ap table_text b.translated ∙ sym (append-nil (table_text (emitted f))), refl);
+                  (f, [], a, subst (Stores f) (sym e) b, text ∙ out ∙ ap table_text b.translated ∙ sym (append-nil (table_text (emitted (spelled_out f)))), refl);
             };
             over = λ m. absurd (both_ways _ m (ap goes e));
           }
@@ -105,7 +105,7 @@ module _ (read done : List ℕ) (s r : Run) (number : r.number ≡ s.number + 1)
 
   -- ── A later line ends ──
 
-  pub going_later : (t : Tables) (answer : Result Verdicts Refusal) → ((f : Formula) → TablesOf f t.psl.items t.ltl.items → LaterAnswer f s.line.items answer)
+  pub going_later : (t : Tables) (answer : Result Verdicts Refusal) → ((f : Written) → TablesOf f t.psl.items t.ltl.items → LaterAnswer (spelled_out f) s.line.items answer)
       → s.stage ≡ Later t → r.stage ≡ s.stage → r.out.items ≡ s.out.items ++ later_text (s.number - 1) answer → Going (read ▸ 10) (done ++ r.out.items) r
   going_later t answer answers e same out =
       let ended = ended_end read [] in
@@ -124,13 +124,13 @@ module _ (read done : List ℕ) (s r : Run) (number : r.number ≡ s.number + 1)
           → PrintedSoFar (ls ▸ open_line read) ((done ++ s.out.items) ++ later_text (s.number - 1) answer) s.stage
       go [] n (first, _) = let z : ◌≡◌ {A = ℕ} 0 1 = cc in absurd (omega arith)
       go (l ∷ ls) n (f, rest, a, b, c, p) =
-          let answered = later_kept f (open_line read) answer (subst (λ (x : List ℕ). LaterAnswer f x answer) g.kept (answers f (subst (Stores f) e b))) in (
+          let answered = later_kept (spelled_out f) (open_line read) answer (subst (λ (x : List ℕ). LaterAnswer (spelled_out f) x answer) g.kept (answers f (subst (Stores f) e b))) in (
             f,
             rest ++ later_text (s.number - 1) answer,
             a,
             b,
-            ap (λ (x : List ℕ). x ++ later_text (s.number - 1) answer) c ∙ append_assoc (table_text (emitted f)) rest (later_text (s.number - 1) answer),
-            traces-more f (open_line read) answer answered (s.number - 1) 1 ls rest (omega (arith, g.counted, ap length n)) p,
+            ap (λ (x : List ℕ). x ++ later_text (s.number - 1) answer) c ∙ append_assoc (table_text (emitted (spelled_out f))) rest (later_text (s.number - 1) answer),
+            traces-more (spelled_out f) (open_line read) answer answered (s.number - 1) 1 ls rest (omega (arith, g.counted, ap length n)) p,
           )
 
 -- ── The input's end ──

@@ -2,7 +2,7 @@
 use Rattle.std.specs.Prelude.{◌≡◌, Bool, true, false, List, [], ◌∷◌, ◌++◌, ℕ, ◌+◌, ◌≤◌, length, take, eqb, Result, Ok, Err}
 use Rattle.trace.specs.declared.refusal.Refusal.{Refusal}
 use Rattle.table.specs.Node.{◌▸◌}
-use Rattle.logic.specs.Formula.{Formula}
+use Rattle.logic.specs.Written.{Written, spelled_out}
 use Rattle.translate.specs.Emitted.{emitted}
 use Rattle.formula_lines.specs.Spelling.{formula_line}
 use Rattle.text.specs.Reading.{Takes}
@@ -48,7 +48,7 @@ abbrev pub gathered : Run → List ℕ
 gathered s = s.out.items
 
 -- The tables of a formula are stored.
-abbrev pub Stores : Formula → Stage → Type 0
+abbrev pub Stores : Written → Stage → Type 0
 Stores f First = ⊥
 Stores f (Later t) = TablesOf f t.psl.items t.ltl.items
 Stores f Ended = ⊥
@@ -57,7 +57,8 @@ Stores f Ended = ⊥
 abbrev pub PrintedSoFar : List (List ℕ) → List ℕ → Stage → Type 0
 PrintedSoFar [] out stage = (stage ≡ First) × (out ≡ [])
 PrintedSoFar (line ∷ ls) out stage =
-    (f : Formula) × (rest : List ℕ) × Takes formula_line formula_limits line f × Stores f stage × (out ≡ table_text (emitted f) ++ rest) × PrintsTraces f 1 ls rest
+    (f : Written) × (rest : List ℕ) × Takes formula_line formula_limits line f × Stores f stage × (out ≡ table_text (emitted (spelled_out f)) ++ rest)
+    × PrintsTraces (spelled_out f) 1 ls rest
 
 -- The run goes on: the bytes `read` have been taken, and the lines that ended in them printed `out`.
 pub record Going (read out : List ℕ) (s : Run) : Type 0 where

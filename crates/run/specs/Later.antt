@@ -1,7 +1,7 @@
 -- What the functions of a later line promise.
 use Rattle.std.specs.Prelude.{◌≡◌, List, ◌++◌, ℕ, ◌-◌, take, Result}
 use Rattle.trace.specs.declared.refusal.Refusal.{Refusal}
-use Rattle.logic.specs.Formula.{Formula}
+use Rattle.logic.specs.Written.{Written, spelled_out}
 use Rattle.psl_verdict.specs.Verdict.{PslJudges}
 use Rattle.ltl_verdict.specs.Verdict.{LtlJudges}
 use Rattle.answers.specs.Answer.{LaterAnswer, later_text}
@@ -17,5 +17,5 @@ BothJudged psl ltl lead cycle v = PslJudges psl lead cycle v.psl × LtlJudges lt
 -- A later line of a number: its answer, and the answer's text behind what was gathered, as far as it has room.
 pub record LaterDone (line : List ℕ) (t : Tables) (number : ℕ) (out out' : List ℕ) : Type 0 where
   pub answer : Result Verdicts Refusal
-  pub answers : (f : Formula) → TablesOf f t.psl.items t.ltl.items → LaterAnswer f line answer
+  pub answers : (f : Written) → TablesOf f t.psl.items t.ltl.items → LaterAnswer (spelled_out f) line answer
   pub writes : out' ≡ take gathering_room (out ++ later_text (number - 1) answer)

@@ -1,6 +1,6 @@
 // A later line of a run: both verdicts on its trace.
 ghost use Rattle.std.specs.Prelude.{◌≡◌, ◌++◌, ◌+◌, ◌-◌, ◌≤◌, length};
-ghost use Rattle.logic.specs.Formula.{Formula};
+ghost use Rattle.logic.specs.Written.{Written, spelled_out};
 ghost use Rattle.answers.specs.Answer.{LaterAnswer};
 ghost use Rattle.answers.specs.Inner.{TablesOf};
 ghost use Rattle.run.specs.Later.{BothJudged, LaterDone};
@@ -24,7 +24,7 @@ fn judge_both(tables: &Tables, trace: TraceView<'_>) -> Verdicts
 
 // Both verdicts on a line's trace, or its refusal. The reader is lent lists, as C lends it some, and tells how much of them is in use.
 fn later_line(line: &[u8], tables: &Tables) -> Result<Verdicts, Refusal>
-    ensures { (f : Formula) → TablesOf f tables.now.psl.items tables.now.ltl.items → LaterAnswer f line.now result }
+    ensures { (f : Written) → TablesOf f tables.now.psl.items tables.now.ltl.items → LaterAnswer (spelled_out f) line.now result }
 {
     let mut lead: [Letter; MOST_LETTERS] = [0; MOST_LETTERS];
     let mut cycle: [Letter; MOST_LETTERS] = [0; MOST_LETTERS];

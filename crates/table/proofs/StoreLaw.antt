@@ -19,7 +19,10 @@ three l l1 l2 l3 i a b c e f g =
     let q : i + 2 ≡ suc (suc i) = omega arith in
     g ∙ simp (f, e, p, q)
 
--- A node more is three numbers more.
+-- The numbers of more nodes.
+pub numbers-append : (ns ms : List Node) → numbers_of (ns ++ ms) ≡ numbers_of ns ++ numbers_of ms
+numbers-append [] ms = refl
+numbers-append (node k l r ∷ ns) ms = ap (λ (xs : List ℕ). k ∷ l ∷ r ∷ xs) (numbers-append ns ms)
+
 pub numbers_more : (ns : List Node) (k l r : ℕ) → numbers_of (ns ▸ node k l r) ≡ numbers_of ns ++ k ∷ l ∷ r ∷ []
-numbers_more [] k l r = refl
-numbers_more (node k' l' r' ∷ ns) k l r = ap (λ (xs : List ℕ). k' ∷ l' ∷ r' ∷ xs) (numbers_more ns k l r)
+numbers_more ns k l r = numbers-append ns (node k l r ∷ [])

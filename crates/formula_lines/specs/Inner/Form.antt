@@ -1,9 +1,9 @@
 -- Forms of either sort as the reader meets them: `true`, `(var K)`, or the keyword of a kind with one or two operands.
 use Rattle.std.specs.Prelude.{◌≡◌, Bool, false, ◌||◌, List, [], ◌++◌, ℕ, T, leb}
 use Rattle.logic.specs.Letter.{signals}
-use Rattle.table.specs.Node.{Node, node, ◌▸◌, last}
 use Rattle.text.specs.Text.{text}
 use Rattle.formula_lines.specs.Inner.Kinds.{keyword, arity, left_sort, right_sort, kinds}
+use Rattle.formula_lines.specs.Inner.Writes.{Nodes, leaf, one_nodes, two_nodes}
 use Rattle.text.specs.Inner.Words.{elem}
 use Rattle.text.specs.Spelling.{digits}
 
@@ -44,12 +44,12 @@ inner (two k f g) = bytes f ++ (text " " ++ bytes g)
 
 -- ── Their nodes ──
 
--- Appended in closing order: a form's own node is the last then.
-unfoldable pub closed : Form → List Node → List Node
-closed truth ns = ns ▸ node 0 0 0
-closed (signal n) ns = ns ▸ node 1 n 0
-closed (one k f) ns = let ms = closed f ns in ms ▸ node k (last ms) 0
-closed (two k f g) ns = let ms = closed f ns in let ps = closed g ms in ps ▸ node k (last ms) (last ps)
+-- In closing order: a form's own node is the last.
+unfoldable pub nodes_from : Form → Nodes
+nodes_from truth = leaf 0 0
+nodes_from (signal n) = leaf 1 n
+nodes_from (one k f) = one_nodes k (nodes_from f)
+nodes_from (two k f g) = two_nodes k (nodes_from f) (nodes_from g)
 
 -- Whether some signal is not below `signals`.
 unfoldable pub wide : Form → Bool

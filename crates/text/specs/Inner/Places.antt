@@ -3,7 +3,7 @@
 use Rattle.std.specs.Prelude.{◌≡◌, List, [], ◌∷◌, ◌++◌, ℕ, suc, ◌≤◌, length, take, drop}
 use Rattle.text.specs.Limits.{most_bytes}
 
--- A place in a line that is not too long, with no more nodes or letters than bytes before it.
+-- A place in a line that is not too long, with no more letters than bytes before it.
 pub record CursorIn (s : List ℕ) (at n : ℕ) : Type 0 where
   pub few : n ≤ at
   pub within : at ≤ length s

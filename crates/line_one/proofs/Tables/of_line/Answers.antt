@@ -6,7 +6,7 @@ use native.Mathlib.Omega.{arith}
 use lib.ListN.{length, take}
 use Rattle.std.proofs.Common.{rules, Err}
 use Rattle.std.specs.List.{refill}
-use Rattle.logic.specs.Formula.{Formula}
+use Rattle.logic.specs.Written.{Written}
 use Rattle.psl.specs.Check.{psl_rules}
 use Rattle.translate.specs.Answer.{Delivers}
 use Rattle.text.specs.Reading.{Takes}
@@ -27,7 +27,7 @@ psl-cut : (e : In_ok-q) → e.truncate.new.self.items ≡ take (3 * e.in_ok-p.p)
 psl-cut e = cut e.from-psl.result.items e.read_formula.new.out (3 * e.in_ok-p.p) (search rules) e.truncate.ensures.items
 
 stored : (e : In_ok-q) (ltl : List ℕ) → ltl ≡ take (3 * e.in_ok-q.q) (refill (length e.from-ltl.result.items) e.from-ltl.result.items e.translate.new.out)
-    → (f : Formula) × Takes formula_line formula_limits e.args.line.now f × TablesOf f e.truncate.new.self.items ltl
+    → (f : Written) × Takes formula_line formula_limits e.args.line.now f × TablesOf f e.truncate.new.self.items ltl
 stored e ltl q =
     tables e.args.line.now e.deref_mut.result.now e.read_formula.new.out e.deref_mut-2.result.now e.translate.new.out e.in_ok-p.p e.in_ok-q.q
     (omega (arith, e.from-psl.ensures.1, ap length e.deref_mut.ensures.value)) e.in_ok-p.ensures e.in_ok-q.ensures (e.deref.ensures.0 ∙ psl-cut e) (psl-cut e)

@@ -5,6 +5,7 @@ use Prim.Native.Nat.{ℕ}
 use lib.ListN.{take}
 use Rattle.std.proofs.Common.{rules, Result, Err, Bor}
 use Rattle.trace.specs.declared.refusal.Refusal.{Refusal}
+use Rattle.logic.specs.Written.{spelled_out}
 use Rattle.trace_lines.specs.declared.Lengths.{Lengths}
 use Rattle.trace_lines.specs.TraceAnswer.{TraceAnswer}
 use Rattle.answers.specs.Answer.{LaterAnswer}
@@ -15,7 +16,7 @@ use Rattle.run.proofs.later.later_line.Goals as goal
 pub returns-in_err-read : goal.returns-in_err-read
 returns-in_err-read c = λ f t. let line = c.args.line.now in
     let a = subst (λ (x : Result Lengths Refusal). TraceAnswer line room room x c.read_trace.new.lead c.read_trace.new.cycle) c.in_err-read.was c.read_trace.ensures in
-    let h : LaterAnswer f line (Err c.in_err-read.field-0.0) = later_refused line c.read_trace.new.lead c.read_trace.new.cycle a in search rules
+    let h : LaterAnswer (spelled_out f) line (Err c.in_err-read.field-0.0) = later_refused line c.read_trace.new.lead c.read_trace.new.cycle a in search rules
 
 pub returns : goal.returns
 returns c = let x = c.args in let line = x.line.now in let n = c.in_ok-read.read in

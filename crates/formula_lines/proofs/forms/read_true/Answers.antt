@@ -5,7 +5,7 @@ use Rattle.formula_lines.specs.Inner.Form.{truth}
 use Rattle.formula_lines.specs.Inner.Reader.{sort_number}
 use Rattle.formula_lines.proofs.KeywordLaw.{sort_formula}
 use Rattle.formula_lines.proofs.ReaderLaw.{true-not_due, true-part, true-stands}
-use Rattle.formula_lines.proofs.read_true.Goals as goal
+use Rattle.formula_lines.proofs.forms.read_true.Goals as goal
 
 pub returns-in_default-clause-read : goal.returns-in_default-clause-read
 returns-in_default-clause-read c =
@@ -19,4 +19,4 @@ returns-in_err-expect-clause-read c =
 pub returns-clause-read : goal.returns-clause-read
 returns-clause-read c =
     let w = c.in_ok-expect.ensures.read in
-    (truth, ap sort_number c.in-Boolean.is, true-stands _ _ _ _ _ _ c.requires.place.few (w.stands c.requires.place.within) c.put_node.ensures)
+    (truth, ap sort_number c.in-Boolean.is, true-stands (w.stands c.requires.place.within) c.put_leaf.ensures)

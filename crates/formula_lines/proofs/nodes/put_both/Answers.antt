@@ -1,0 +1,9 @@
+-- One node more.
+use Rattle.psl.specs.Kind.{number}
+use Rattle.formula_lines.proofs.WritesLaw.{writes-one}
+use Rattle.formula_lines.proofs.nodes.put_both.Goals as goal
+
+pub returns : goal.returns
+returns c =
+    rw (← c.last.ensures, ← c.last-2.ensures)
+    (writes-one (number c.args.kind) c.last.result c.last-2.result c.put_node.ensures.count c.put_node.ensures.list)
