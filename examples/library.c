@@ -1,5 +1,6 @@
 /* The library from C: the worked example of README. A formula line is read and
- * translated, the LTL table is printed, and two recordings are judged. */
+ * translated, the LTL table is printed, and two recordings are judged. Then what
+ * is refused, and where. */
 #include <stdio.h>
 #include <string.h>
 
@@ -17,6 +18,14 @@ static void print_table(size_t nodes) {
     }
 }
 
+/* A refusal's number and, where it carries one, its place. */
+static void print_refusal(const char *what, uint64_t answer) {
+    printf("%s is refused by %u", what, brancadol_refusal(answer));
+    if (brancadol_has_place(answer))
+        printf(" at %zu", brancadol_place(answer));
+    printf("\n");
+}
+
 static const char *verdict(uint64_t answer) {
     if (brancadol_refusal(answer) != 0)
         return "none";
@@ -28,7 +37,7 @@ static void judge(size_t psl_nodes, size_t ltl_nodes, const char *line) {
     uint64_t answer = brancadol_read_trace((const uint8_t *)line, strlen(line), lead,
                                            BRANCADOL_MOST_LETTERS, loop, BRANCADOL_MOST_LETTERS);
     if (brancadol_refusal(answer) != 0) {
-        printf("%s is refused by %u\n", line, brancadol_refusal(answer));
+        print_refusal(line, answer);
         return;
     }
     size_t lead_length = brancadol_lead_length(answer), loop_length = brancadol_loop_length(answer);
@@ -41,7 +50,7 @@ static void judge(size_t psl_nodes, size_t ltl_nodes, const char *line) {
     if (brancadol_refusal(answer) == 0)
         printf("  letter 100 is %llu\n", (unsigned long long)letter);
     else
-        printf("  letter 100 is refused by %u\n", brancadol_refusal(answer));
+        print_refusal("  letter 100", answer);
 }
 
 int main(void) {
@@ -60,5 +69,9 @@ int main(void) {
     judge(psl_nodes, ltl_nodes, "(finite 2 2 6)");
     judge(psl_nodes, ltl_nodes, "(lasso (2) (2))");
     judge(psl_nodes, ltl_nodes, "(finite 2 2 6");
+
+    /* Node 0 is true, node 1 its not: a Boolean where a formula is due. */
+    const uint16_t wrong[] = {0, 0, 0, BRANCADOL_PSL_NOT, 0, 0};
+    print_refusal("a table", brancadol_check_psl(wrong, sizeof wrong / sizeof wrong[0]));
     return 0;
 }

@@ -13,8 +13,11 @@
  *            the first that applies, in the order in which its function names
  *            them.
  *   value    where it succeeded, what the function says it gives. Where it was
- *            refused: 0 or, in a later version, 1 + the place of the fault.
- * Read an answer by brancadol_refusal and brancadol_value.
+ *            refused: 0 where the refusal carries no place, or else 1 + the
+ *            place of the fault, a node or a byte of the line. The numbers of
+ *            refusals say which carries what.
+ * Read an answer by brancadol_refusal and brancadol_value, and a refusal's place
+ * by brancadol_has_place and brancadol_place.
  *
  * LISTS. A list is a pointer and a count of elements, not of bytes.
  *   - No pointer may be NULL, also where the count is 0: any address that is
@@ -88,30 +91,33 @@ enum brancadol_ltl_kind {
     BRANCADOL_LTL_UNTIL = 6 /* left, right */
 };
 
-/* The numbers of refusals. */
+/* The numbers of refusals; after a semicolon the place that one carries, a node
+ * or a byte of the line, both counted from 0. Where none stands it carries none.
+ * The byte is the first such that no line of the shape, of any length, begins with
+ * the bytes up to it and with it; where the line is only cut short, its length. */
 enum brancadol_refusal_number {
     /* of a PSL table: node by node up to 6, within a node in this order */
     BRANCADOL_REFUSED_PSL_LENGTH = 1,  /* no multiple of 3, or not 1 to 1,024 nodes */
-    BRANCADOL_REFUSED_PSL_KIND = 2,    /* a kind above 10 */
-    BRANCADOL_REFUSED_PSL_UNUSED = 3,  /* an unused place that is not 0 */
-    BRANCADOL_REFUSED_PSL_SIGNAL = 4,  /* a signal above 31 */
-    BRANCADOL_REFUSED_PSL_OPERAND = 5, /* an operand not below its user */
-    BRANCADOL_REFUSED_PSL_SORT = 6,    /* an operand of the wrong sort */
-    BRANCADOL_REFUSED_PSL_USES = 7,    /* a node but the last not used exactly once */
-    BRANCADOL_REFUSED_PSL_ROOT = 8,    /* the last node is Boolean */
+    BRANCADOL_REFUSED_PSL_KIND = 2,    /* a kind above 10; its node */
+    BRANCADOL_REFUSED_PSL_UNUSED = 3,  /* an unused place that is not 0; its node */
+    BRANCADOL_REFUSED_PSL_SIGNAL = 4,  /* a signal above 31; its node */
+    BRANCADOL_REFUSED_PSL_OPERAND = 5, /* an operand not below its user; the user */
+    BRANCADOL_REFUSED_PSL_SORT = 6,    /* an operand of the wrong sort; its user */
+    BRANCADOL_REFUSED_PSL_USES = 7,    /* a node but the last not used exactly once; lowest */
+    BRANCADOL_REFUSED_PSL_ROOT = 8,    /* the last node is Boolean; that node */
     /* of a trace that is judged, and of the translation's room */
     BRANCADOL_REFUSED_TRACE_LONG = 9,  /* more than 64 letters */
     BRANCADOL_REFUSED_TABLE_ROOM = 10, /* the lent list has fewer than 3 * S numbers */
     /* of an LTL table, as 1 to 5, and of the one node of a node line */
     BRANCADOL_REFUSED_LTL_LENGTH = 11,  /* no multiple of 3, or not 1 to 4,096 nodes */
-    BRANCADOL_REFUSED_LTL_KIND = 12,    /* a kind above 6 */
-    BRANCADOL_REFUSED_LTL_UNUSED = 13,  /* an unused place that is not 0 */
-    BRANCADOL_REFUSED_LTL_SIGNAL = 14,  /* a signal above 31 */
-    BRANCADOL_REFUSED_LTL_OPERAND = 15, /* an operand not below its user */
+    BRANCADOL_REFUSED_LTL_KIND = 12,    /* a kind above 6; its node */
+    BRANCADOL_REFUSED_LTL_UNUSED = 13,  /* an unused place that is not 0; its node */
+    BRANCADOL_REFUSED_LTL_SIGNAL = 14,  /* a signal above 31; its node */
+    BRANCADOL_REFUSED_LTL_OPERAND = 15, /* an operand not below its user; the user */
     BRANCADOL_REFUSED_TRACE_EMPTY = 16, /* a trace without letters has no LTL meaning */
     /* of lines */
     BRANCADOL_REFUSED_LINE_LONG = 17,    /* more than 16,384 bytes */
-    BRANCADOL_REFUSED_LINE_SHAPE = 18,   /* not of the shape */
+    BRANCADOL_REFUSED_LINE_SHAPE = 18,   /* not of the shape; the byte at which it breaks */
     BRANCADOL_REFUSED_LINE_NODES = 19,   /* a formula of more than 1,024 nodes, spelled out */
     BRANCADOL_REFUSED_LINE_SIGNAL = 20,  /* a signal above 31 */
     BRANCADOL_REFUSED_LINE_LETTER = 21,  /* a letter above 4,294,967,295 */
@@ -131,6 +137,16 @@ static inline uint64_t brancadol_value(uint64_t answer) {
     return answer >> 8;
 }
 
+/* Whether a refusal carries a place. */
+static inline int brancadol_has_place(uint64_t answer) {
+    return brancadol_refusal(answer) != 0 && brancadol_value(answer) != 0;
+}
+
+/* The place that a refusal carries, where it carries one. */
+static inline size_t brancadol_place(uint64_t answer) {
+    return (size_t)(brancadol_value(answer) - 1);
+}
+
 /* The two lengths that brancadol_read_trace gives. */
 static inline size_t brancadol_lead_length(uint64_t answer) {
     return (size_t)(brancadol_value(answer) & 65535);
@@ -143,40 +159,42 @@ static inline size_t brancadol_loop_length(uint64_t answer) {
 /* Reads a formula line, "(psl F)" without a line end, into a PSL table. Short
  * forms in F are spelled out, and the table is that of the formula spelled out.
  * Value: its nodes n; the first 3 * n numbers of out are the table. Refusals:
- * 17, 18, 19, 20, 23. */
+ * 17; 18, with its byte; 19; 20; 23. */
 uint64_t brancadol_read_formula(const uint8_t *line, size_t line_length,
                                 uint16_t *out, size_t out_length);
 
 /* Reads a trace line, "(finite N ...)" or "(lasso (N ...) (N ...))" without a
  * line end. Value: the lead-in's length + 65,536 * the loop's length; so many
- * letters stand at the front of lead and of loop. Refusals: 17, 18, 21, 22,
- * 23. */
+ * letters stand at the front of lead and of loop. Refusals: 17; 18, with its byte;
+ * 21; 22; 23. */
 uint64_t brancadol_read_trace(const uint8_t *line, size_t line_length,
                               brancadol_letter *lead, size_t lead_length,
                               brancadol_letter *loop, size_t loop_length);
 
-/* Checks a PSL table. Value: 0. Refusals: 1; then 2 to 6, node by node; 7; 8. */
+/* Checks a PSL table. Value: 0. Refusals: 1; then 2 to 6, node by node; 7; 8; all
+ * but 1 with a node. */
 uint64_t brancadol_check_psl(const uint16_t *table, size_t table_length);
 
-/* Checks an LTL table. Value: 0. Refusals: 11; then 12 to 15, node by node. */
+/* Checks an LTL table. Value: 0. Refusals: 11; then 12 to 15, node by node, with
+ * the node. */
 uint64_t brancadol_check_ltl(const uint16_t *table, size_t table_length);
 
 /* Translates a PSL table into an LTL table that holds, by the LTL meaning, on
  * exactly those traces with letters on which the formula holds, by the PSL
  * meaning. Value: its nodes S, at most 4,094; the first 3 * S numbers of out
  * are the table, which brancadol_check_ltl accepts. Refusals: 1 to 8 as
- * brancadol_check_psl; 10. */
+ * brancadol_check_psl, place included; 10. */
 uint64_t brancadol_translate(const uint16_t *table, size_t table_length,
                              uint16_t *out, size_t out_length);
 
 /* Whether the formula of a PSL table holds on a trace. Value: 1 yes, 0 no.
- * Refusals: 1 to 8 as brancadol_check_psl; 9. */
+ * Refusals: 1 to 8 as brancadol_check_psl, place included; 9. */
 uint64_t brancadol_psl_verdict(const uint16_t *table, size_t table_length,
                                const brancadol_letter *lead, size_t lead_length,
                                const brancadol_letter *loop, size_t loop_length);
 
 /* Whether an LTL table holds on a trace. Value: 1 yes, 0 no. Refusals: 11 to 15
- * as brancadol_check_ltl; 9; 16. */
+ * as brancadol_check_ltl, place included; 9; 16. */
 uint64_t brancadol_ltl_verdict(const uint16_t *table, size_t table_length,
                                const brancadol_letter *lead, size_t lead_length,
                                const brancadol_letter *loop, size_t loop_length);
@@ -197,7 +215,7 @@ uint64_t brancadol_rest(const brancadol_letter *lead, size_t lead_length,
 
 /* Writes the line of LTL node own, as "(14 until 9 13)" and a byte 10. Value:
  * its bytes, at most 23. Refusals: 11 where own is above 4,095; 12 to 15 for
- * that node; 24. */
+ * that node, with own as the place; 24. */
 uint64_t brancadol_write_node(uint16_t own, uint16_t kind, uint16_t left,
                               uint16_t right, uint8_t *out, size_t out_length);
 

@@ -71,14 +71,40 @@ fn small_tables(kinds: u16) -> Vec<Vec<u16>> {
     tables
 }
 
+/// A table with one fault and with two, of the same node or of two nodes:
+/// every node with an unknown kind, either place too large, the node as its
+/// own operand, and node 0 or node 1 as its operand.
+fn faulty(table: &[u16]) -> Vec<Vec<u16>> {
+    let mut faults = Vec::new();
+    for node in 0..table.len() / 3 {
+        faults.push((3 * node, 11));
+        for place in [3 * node + 1, 3 * node + 2] {
+            faults.extend([65535, node as u16, 0, 1].map(|value| (place, value)));
+        }
+    }
+    let mut tables = Vec::new();
+    for first in &faults {
+        for second in &faults {
+            let mut table = table.to_vec();
+            for &(place, value) in [first, second] {
+                table[place] = value;
+            }
+            tables.push(table);
+        }
+    }
+    tables
+}
+
 pub fn psl_tables() -> Vec<Vec<u16>> {
     let mut tables = small_tables(11);
+    tables.extend(faulty(&table_of(FORMULAS[15])));
     tables.extend([1023, 1024, 1025].map(|nodes| chain(nodes, oracle::PSL_NEXT)));
     tables
 }
 
 pub fn ltl_tables() -> Vec<Vec<u16>> {
     let mut tables = small_tables(7);
+    tables.extend(faulty(&translated(&table_of(FORMULAS[0]))));
     tables.extend([4095, 4096, 4097].map(|nodes| vec![0; 3 * nodes]));
     tables
 }
@@ -297,5 +323,22 @@ pub fn inputs() -> Vec<Vec<u8>> {
     let short = format!("{SHORT}\n(finite)\n(finite 2)\n(lasso () (0 2))\n");
     inputs.push(short.into_bytes());
     inputs.extend(copying_lines());
+    inputs.extend(faulty_inputs());
     inputs
+}
+
+/// A formula line that is refused at each of its places, and a run with every
+/// damage of some trace lines.
+fn faulty_inputs() -> Vec<Vec<u8>> {
+    let line = SHORT.as_bytes();
+    let at_each = (0..line.len()).flat_map(|at| {
+        let (before, after) = line.split_at(at);
+        [before.to_vec(), [before, b"#", after].concat()]
+    });
+    let mut run = FORMULAS[10].as_bytes().to_vec();
+    for line in TRACES.iter().flat_map(|line| damaged(line)) {
+        run.push(b'\n');
+        run.extend(line);
+    }
+    at_each.chain([run]).collect()
 }

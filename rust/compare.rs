@@ -1,6 +1,7 @@
 //! Compares the library with a separately written evaluator: every operation
-//! on fixed and random inputs, what the translator promises by running both
-//! verdicts, and the built program on whole inputs.
+//! on fixed and random inputs, refusals by number and place; what the
+//! translator promises by running both verdicts; and the built program on
+//! whole inputs.
 //!
 //!     ./build compare
 //!     ./compare [SEED] [PROGRAM]
@@ -13,7 +14,7 @@ mod oracle;
 mod types;
 
 use generate::Rng;
-use std::collections::BTreeMap;
+use std::collections::{BTreeMap, BTreeSet};
 use std::fmt::{self, Debug, Formatter};
 use std::time::Instant;
 use types::{Letter, Refusal};
@@ -23,6 +24,8 @@ const DEFAULT_SEED: u64 = 20_011_102;
 const SHOWN: usize = 3;
 /// How often a refusal of an operation is to occur at least.
 const LEAST: usize = 300;
+/// At how many places it is to occur at least, where it carries one.
+const LEAST_PLACES: usize = 30;
 /// Places on each side of a lent list that belong to nobody.
 const MARGIN: usize = 4;
 
@@ -118,8 +121,16 @@ pub struct Operation<I, F, T> {
     pub ask: fn(&F, &I, &mut Lent) -> Result<T, Refusal>,
 }
 
-/// How often each answer was due.
-type Answers = BTreeMap<(u8, &'static str), usize>;
+/// How often an answer was due, and at which places.
+#[derive(Default)]
+struct Due {
+    times: usize,
+    places: BTreeSet<usize>,
+}
+
+/// Each answer that was due: the number of a refusal, or 0 and what the answer
+/// is counted as.
+type Answers = BTreeMap<(u8, &'static str), Due>;
 
 /// What is counted over all operations.
 pub struct Report {
@@ -142,7 +153,7 @@ impl Report {
                 let mut lent = Lent::new(seed);
                 ((operation.ask)(by, &input, &mut lent), lent)
             });
-            *answers.entry(counted(&due.0)).or_insert(0) += 1;
+            count(&mut answers, &due.0);
             if got != due {
                 differ += 1;
                 if differ <= SHOWN {
@@ -156,13 +167,14 @@ impl Report {
 
     /// Prints the line of an operation and adds to the totals.
     fn note(&mut self, name: &str, differ: usize, answers: &Answers, start: Instant) {
-        let inputs: usize = answers.values().sum();
+        let inputs: usize = answers.values().map(|due| due.times).sum();
         let seconds = start.elapsed().as_secs_f64();
         print!("{name}: {inputs} inputs, {differ} differ, {seconds:.1} s;");
-        for ((number, answer), times) in answers {
-            match number {
-                0 => print!(" {answer}: {times}"),
-                _ => print!(" {answer} {number}: {times}"),
+        for ((number, answer), Due { times, places }) in answers {
+            match (number, places.len()) {
+                (0, _) => print!(" {answer}: {times}"),
+                (_, 0) => print!(" {answer} {number}: {times}"),
+                (_, many) => print!(" {answer} {number}: {times} at {many} places"),
             }
         }
         println!();
@@ -170,24 +182,31 @@ impl Report {
         self.failed += differ;
     }
 
-    /// A refusal that hardly occurs is hardly compared.
+    /// A refusal that hardly occurs is hardly compared, and so is its place.
     fn expect(&mut self, name: &str, refusals: &[u8], answers: &Answers) {
+        let none = Due::default();
         for &number in refusals {
-            let times = answers.get(&(number, "refusal")).copied().unwrap_or(0);
-            if times < LEAST {
-                println!("TOO FEW {name}: refusal {number} occurred {times} times");
+            let Due { times, places } = answers.get(&(number, "refusal")).unwrap_or(&none);
+            let places = places.len();
+            if *times < LEAST || (1..LEAST_PLACES).contains(&places) {
+                println!(
+                    "TOO FEW {name}: refusal {number} occurred {times} times, at {places} places"
+                );
                 self.failed += 1;
             }
         }
     }
 }
 
-/// What an answer is counted as; the number of a refusal, or 0.
-fn counted<T: Value>(answer: &Result<T, Refusal>) -> (u8, &'static str) {
-    match answer {
-        Ok(value) => (0, value.name()),
-        Err(refusal) => (*refusal, "refusal"),
-    }
+/// Counts an answer that was due.
+fn count<T: Value>(answers: &mut Answers, answer: &Result<T, Refusal>) {
+    let (what, place) = match answer {
+        Ok(value) => ((0, value.name()), None),
+        Err(refusal) => ((refusal.number, "refusal"), refusal.place),
+    };
+    let due = answers.entry(what).or_default();
+    due.times += 1;
+    due.places.extend(place);
 }
 
 /// An input, and both outcomes around the first place in which they differ.

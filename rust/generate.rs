@@ -165,7 +165,7 @@ pub fn translated(table: &[u16]) -> Vec<u16> {
 }
 
 /// The operands of a node of a PSL table: the place in the list, and the node.
-fn operands(table: &[u16], node: usize) -> impl Iterator<Item = (usize, usize)> + '_ {
+pub fn operands(table: &[u16], node: usize) -> impl Iterator<Item = (usize, usize)> + '_ {
     let places = oracle::psl_places(table[3 * node]).unwrap();
     (0..2)
         .filter(move |&side| matches!(places[side], Place::Operand(_)))
@@ -341,6 +341,15 @@ fn change_table(rng: &mut Rng, table: &mut Vec<u16>) {
     }
 }
 
+/// Changes two nodes, or one twice: mostly faults, of which the first is told.
+fn change_two(rng: &mut Rng, table: &mut [u16]) {
+    let nodes = table.len() / 3;
+    let (first, second) = (rng.below(nodes), rng.below(nodes));
+    for node in [first, rng.pick(&[first, second])] {
+        change_node(rng, &mut table[3 * node..3 * node + 3], node);
+    }
+}
+
 /// An input left alone or changed up to three times.
 fn changed<T>(rng: &mut Rng, mut input: T, change: impl Fn(&mut Rng, &mut T)) -> T {
     for _ in 0..rng.pick(&[0, 0, 0, 0, 1, 1, 2, 3]) {
@@ -349,14 +358,34 @@ fn changed<T>(rng: &mut Rng, mut input: T, change: impl Fn(&mut Rng, &mut T)) ->
     input
 }
 
-pub fn any_psl_table(rng: &mut Rng) -> Vec<u16> {
-    let table = some_psl_table(rng);
+/// A table changed in any way, or in two nodes.
+fn any_table(rng: &mut Rng, mut table: Vec<u16>) -> Vec<u16> {
+    if rng.once_in(6) {
+        change_two(rng, &mut table);
+        return table;
+    }
     changed(rng, table, change_table)
+}
+
+/// A table that is one Boolean, whose last node is refused.
+fn boolean_table(rng: &mut Rng) -> Vec<u16> {
+    let mut table = Vec::new();
+    let nodes = rng.between(1, 100);
+    grow_boolean(rng, nodes, &mut table);
+    table
+}
+
+pub fn any_psl_table(rng: &mut Rng) -> Vec<u16> {
+    if rng.once_in(50) {
+        return boolean_table(rng);
+    }
+    let table = some_psl_table(rng);
+    any_table(rng, table)
 }
 
 pub fn any_ltl_table(rng: &mut Rng) -> Vec<u16> {
     let table = some_ltl_table(rng);
-    changed(rng, table, change_table)
+    any_table(rng, table)
 }
 
 /// Own number, kind, left and right for a node line.
@@ -641,6 +670,31 @@ fn change_line(rng: &mut Rng, line: &mut Vec<u8>) {
     }
 }
 
+/// The bytes that lines are made of, and some that stand in none.
+const BYTES: &[u8] = b"  (())0123456789abdefgiklmnoprstuvwxy-\t\r\0\xff";
+
+/// Damages a line in one byte, wherever it stands: cut there, or the byte left
+/// out, replaced, or one put before it.
+fn damage_line(rng: &mut Rng, line: &mut Vec<u8>) {
+    let at = rng.below(line.len());
+    let byte = rng.pick(BYTES);
+    match rng.below(5) {
+        0 => line.truncate(at),
+        1 => drop(line.remove(at)),
+        2 => line.insert(at, byte),
+        _ => line[at] = byte,
+    }
+}
+
+/// A line changed in any way, or damaged in one byte.
+fn any_line(rng: &mut Rng, mut line: Vec<u8>) -> Vec<u8> {
+    if rng.once_in(4) {
+        damage_line(rng, &mut line);
+        return line;
+    }
+    changed(rng, line, change_line)
+}
+
 /// A node count for a line with short forms, at times about the largest.
 fn spelled_size(rng: &mut Rng) -> usize {
     match rng.below(100) {
@@ -658,12 +712,12 @@ pub fn any_formula_line(rng: &mut Rng) -> Vec<u8> {
         let nodes = spelled_size(rng);
         short_line(rng, nodes)
     };
-    changed(rng, line, change_line)
+    any_line(rng, line)
 }
 
 pub fn any_trace_line(rng: &mut Rng) -> Vec<u8> {
     let (lead, cycle) = any_trace(rng);
-    changed(rng, spell_trace(&lead, &cycle), change_line)
+    any_line(rng, spell_trace(&lead, &cycle))
 }
 
 /// An input of the whole program: a formula line, which is mostly accepted,

@@ -2,7 +2,7 @@
 
 #![allow(dead_code)]
 
-use super::types::{Letter, Refusal};
+use super::types::{refused, refused_at, Letter, Refusal};
 
 mod exported {
     use super::Letter;
@@ -39,11 +39,14 @@ mod exported {
     }
 }
 
-/// A code is a refusal's number, or 0, and 256 times a value.
+/// A code is a refusal's number, or 0, and 256 times a value. The value of a
+/// refusal is 0 where it carries no place, and else 1 and the place.
 fn decoded(code: u64) -> Result<u64, Refusal> {
-    match code % 256 {
-        0 => Ok(code / 256),
-        number => Err(number as Refusal),
+    let (number, value) = ((code % 256) as u8, code / 256);
+    match (number, value) {
+        (0, _) => Ok(value),
+        (_, 0) => Err(refused(number)),
+        _ => Err(refused_at(number, (value - 1) as usize)),
     }
 }
 

@@ -9,7 +9,7 @@
 
 #![allow(dead_code)]
 
-use super::types::{Letter, Refusal};
+use super::types::{refused, refused_at, Letter, Refusal};
 use std::cell::RefCell;
 use std::collections::HashMap;
 
@@ -105,46 +105,47 @@ fn node_of(table: &[u16], node: usize) -> (u16, u16, u16) {
 
 /// The tests on the two places that both tables share, in their order:
 /// unused place not 0, signal above 31, operand not below its user.
-/// `numbers` are the three refusals.
+/// `numbers` are those of the three refusals, whose place is the user.
 fn check_places(
     places: [Place; 2],
     values: [u16; 2],
     user: usize,
-    numbers: [Refusal; 3],
+    numbers: [u8; 3],
 ) -> Result<(), Refusal> {
     let both = [(places[0], values[0]), (places[1], values[1])];
     for (place, value) in both {
         if place == Place::Unused && value != 0 {
-            return Err(numbers[0]);
+            return Err(refused_at(numbers[0], user));
         }
     }
     for (place, value) in both {
         if place == Place::Signal && value > MAX_SIGNAL {
-            return Err(numbers[1]);
+            return Err(refused_at(numbers[1], user));
         }
     }
     for (place, value) in both {
         if matches!(place, Place::Operand(_)) && value as usize >= user {
-            return Err(numbers[2]);
+            return Err(refused_at(numbers[2], user));
         }
     }
     Ok(())
 }
 
-/// PSL check, refusals 1 to 8.
+/// PSL check, refusals 1 to 8. 2 to 6 carry the node whose turn it is, 7 the
+/// lowest node that it is said of, 8 the last.
 pub fn check_psl(table: &[u16]) -> Result<(), Refusal> {
     let nodes = table.len() / 3;
     if table.len() % 3 != 0 || nodes == 0 || nodes > MAX_PSL_NODES {
-        return Err(1);
+        return Err(refused(1));
     }
     for node in 0..nodes {
         let (kind, left, right) = node_of(table, node);
-        let places = psl_places(kind).ok_or(2)?;
+        let places = psl_places(kind).ok_or(refused_at(2, node))?;
         check_places(places, [left, right], node, [3, 4, 5])?;
         for (place, value) in [(places[0], left), (places[1], right)] {
             if let Place::Operand(sort) = place {
                 if psl_sort(table[3 * value as usize]) != sort {
-                    return Err(6);
+                    return Err(refused_at(6, node));
                 }
             }
         }
@@ -159,24 +160,25 @@ pub fn check_psl(table: &[u16]) -> Result<(), Refusal> {
             }
         }
     }
-    if uses[..nodes - 1].iter().any(|&count| count != 1) {
-        return Err(7);
+    let last = nodes - 1;
+    if let Some(node) = uses[..last].iter().position(|&count| count != 1) {
+        return Err(refused_at(7, node));
     }
-    if psl_sort(table[3 * (nodes - 1)]) == Sort::Boolean {
-        return Err(8);
+    if psl_sort(table[3 * last]) == Sort::Boolean {
+        return Err(refused_at(8, last));
     }
     Ok(())
 }
 
-/// LTL check, refusals 11 to 15.
+/// LTL check, refusals 11 to 15. 12 to 15 carry the node whose turn it is.
 pub fn check_ltl(table: &[u16]) -> Result<(), Refusal> {
     let nodes = table.len() / 3;
     if table.len() % 3 != 0 || nodes == 0 || nodes > MAX_LTL_NODES {
-        return Err(11);
+        return Err(refused(11));
     }
     for node in 0..nodes {
         let (kind, left, right) = node_of(table, node);
-        let places = ltl_places(kind).ok_or(12)?;
+        let places = ltl_places(kind).ok_or(refused_at(12, node))?;
         check_places(places, [left, right], node, [13, 14, 15])?;
     }
     Ok(())
@@ -442,7 +444,7 @@ impl<'a> Judge<'a> {
 pub fn psl_verdict(table: &[u16], lead: &[Letter], cycle: &[Letter]) -> Result<bool, Refusal> {
     check_psl(table)?;
     if lead.len() + cycle.len() > MAX_LETTERS {
-        return Err(9);
+        return Err(refused(9));
     }
     let mut judge = Judge::new(table);
     let word = judge.number(Word::of_trace(lead, cycle));
@@ -497,10 +499,10 @@ pub fn ltl_verdict(table: &[u16], lead: &[Letter], cycle: &[Letter]) -> Result<b
     check_ltl(table)?;
     let letters = lead.len() + cycle.len();
     if letters > MAX_LETTERS {
-        return Err(9);
+        return Err(refused(9));
     }
     if letters == 0 {
-        return Err(16);
+        return Err(refused(16));
     }
     let nodes = table.len() / 3;
     let mut truth: Vec<Vec<bool>> = Vec::with_capacity(nodes);
@@ -592,7 +594,7 @@ pub fn translate(table: &[u16], out: &mut [u16]) -> Result<usize, Refusal> {
     check_psl(table)?;
     let size = translated_size(table);
     if out.len() < 3 * size {
-        return Err(10);
+        return Err(refused(10));
     }
     let mut emitted = Emitted {
         numbers: Vec::with_capacity(3 * size),
@@ -613,7 +615,7 @@ pub fn letter_at(lead: &[Letter], cycle: &[Letter], moment: usize) -> Result<Let
     if moment < lead.len() {
         Ok(lead[moment])
     } else if cycle.is_empty() {
-        Err(25)
+        Err(refused(25))
     } else {
         Ok(cycle[(moment - lead.len()) % cycle.len()])
     }
@@ -636,9 +638,33 @@ pub fn rest<'a>(lead: &'a [Letter], cycle: &'a [Letter], moment: usize) -> &'a [
 /// Bytes of a line still to be read.
 struct Reader<'a> {
     bytes: &'a [u8],
+    /// How many bytes the whole line has.
+    length: usize,
 }
 
+/// Refusal 18 arises where a byte stands that nothing of the shape has there,
+/// or where the line is over and something is due. What was read before it
+/// can be completed, since each part of the shape can: so the place is that
+/// of the definition, the first byte with which no line begins any more.
 impl<'a> Reader<'a> {
+    fn new(line: &'a [u8]) -> Reader<'a> {
+        Reader {
+            bytes: line,
+            length: line.len(),
+        }
+    }
+
+    /// Nothing of the shape goes on after so many more bytes.
+    fn fault(&self, ahead: usize) -> Refusal {
+        refused_at(18, self.length - self.bytes.len() + ahead)
+    }
+
+    /// How many bytes stand next that a text begins with.
+    fn alike(&self, text: &str) -> usize {
+        let pairs = self.bytes.iter().zip(text.as_bytes());
+        pairs.take_while(|(byte, due)| byte == due).count()
+    }
+
     /// Takes a text if it stands next.
     fn take(&mut self, text: &str) -> bool {
         let here = self.bytes.starts_with(text.as_bytes());
@@ -650,18 +676,25 @@ impl<'a> Reader<'a> {
 
     /// The text must stand next.
     fn expect(&mut self, text: &str) -> Result<(), Refusal> {
-        self.take(text).then_some(()).ok_or(18)
+        if self.take(text) {
+            return Ok(());
+        }
+        Err(self.fault(self.alike(text)))
     }
 
     /// One of the texts must stand next; what belongs to it. No text begins
-    /// another.
+    /// another. Where none stands, the one that goes furthest says where.
     fn one_of<T: Copy>(&mut self, texts: &[(&str, T)]) -> Result<T, Refusal> {
-        let found = texts.iter().find(|(text, _)| self.take(text));
-        found.map(|&(_, meant)| meant).ok_or(18)
+        if let Some(&(_, meant)) = texts.iter().find(|(text, _)| self.take(text)) {
+            return Ok(meant);
+        }
+        let furthest = texts.iter().map(|(text, _)| self.alike(text)).max();
+        Err(self.fault(furthest.unwrap_or(0)))
     }
 
-    /// A number must stand next, which ends after a leading 0. Too large ones
-    /// come back as u64::MAX, which is above every limit.
+    /// A number must stand next, which ends after a leading 0: a digit there
+    /// is not what may follow. Too large ones come back as u64::MAX, which is
+    /// above every limit.
     fn number(&mut self) -> Result<u64, Refusal> {
         let count = match self.bytes {
             [b'0', ..] => 1,
@@ -672,7 +705,7 @@ impl<'a> Reader<'a> {
         };
         let (digits, rest) = self.bytes.split_at(count);
         if digits.is_empty() {
-            return Err(18);
+            return Err(self.fault(0));
         }
         self.bytes = rest;
         Ok(digits.iter().fold(0u64, |value, &digit| {
@@ -683,13 +716,9 @@ impl<'a> Reader<'a> {
     }
 
     /// Numbers with one space between up to the closing bracket, which is
-    /// taken too. `()` gives none; a first number stands right away.
-    fn list_after_bracket(&mut self) -> Result<Vec<u64>, Refusal> {
-        let mut numbers = Vec::new();
-        if self.take(")") {
-            return Ok(numbers);
-        }
-        numbers.push(self.number()?);
+    /// taken too. A first number stands right away.
+    fn numbers(&mut self) -> Result<Vec<u64>, Refusal> {
+        let mut numbers = vec![self.number()?];
         self.more_numbers(&mut numbers)?;
         Ok(numbers)
     }
@@ -704,7 +733,7 @@ impl<'a> Reader<'a> {
 
     /// The line must be over.
     fn end(&self) -> Result<(), Refusal> {
-        self.bytes.is_empty().then_some(()).ok_or(18)
+        self.bytes.is_empty().then_some(()).ok_or(self.fault(0))
     }
 }
 
@@ -901,17 +930,17 @@ fn close(forms: &[Spelled], form: Form, nodes: &mut Vec<[u64; 3]>) -> u64 {
 /// Formula line, refusals 17, 18, 19, 20, 23.
 pub fn read_formula(line: &[u8], out: &mut [u16]) -> Result<usize, Refusal> {
     if line.len() > MAX_LINE {
-        return Err(17);
+        return Err(refused(17));
     }
     let forms = Forms(RefCell::new(Vec::new()));
     let mut reader = FormulaReader {
-        reader: Reader { bytes: line },
+        reader: Reader::new(line),
         forms: &forms,
     };
     let formula = reader.line()?;
     let forms = forms.0.into_inner();
     if forms[formula].nodes > MAX_PSL_NODES {
-        return Err(19);
+        return Err(refused(19));
     }
     let mut nodes = Vec::with_capacity(forms[formula].nodes);
     close(&forms, formula, &mut nodes);
@@ -919,10 +948,10 @@ pub fn read_formula(line: &[u8], out: &mut [u16]) -> Result<usize, Refusal> {
         .iter()
         .any(|node| node[0] == PSL_VAR as u64 && node[1] > MAX_SIGNAL as u64)
     {
-        return Err(20);
+        return Err(refused(20));
     }
     if out.len() < 3 * nodes.len() {
-        return Err(23);
+        return Err(refused(23));
     }
     for (place, &value) in out.iter_mut().zip(nodes.iter().flatten()) {
         *place = value as u16;
@@ -930,21 +959,20 @@ pub fn read_formula(line: &[u8], out: &mut [u16]) -> Result<usize, Refusal> {
     Ok(nodes.len())
 }
 
-/// Lead-in and cycle of a trace line, refusal 18 only.
+/// Lead-in and cycle of a trace line, refusal 18 only. An empty cycle faults
+/// at its closing bracket, where its first number is due.
 fn trace_lists(line: &[u8]) -> Result<(Vec<u64>, Vec<u64>), Refusal> {
-    let mut reader = Reader { bytes: line };
+    let mut reader = Reader::new(line);
     let (mut lead, mut cycle) = (Vec::new(), Vec::new());
-    if reader.take("(finite") {
-        reader.more_numbers(&mut lead)?;
-    } else {
-        reader.expect("(lasso (")?;
-        lead = reader.list_after_bracket()?;
-        reader.expect(" (")?;
-        cycle = reader.list_after_bracket()?;
-        if cycle.is_empty() {
-            return Err(18);
+    if reader.one_of(&[("(finite", false), ("(lasso (", true)])? {
+        if !reader.take(")") {
+            lead = reader.numbers()?;
         }
+        reader.expect(" (")?;
+        cycle = reader.numbers()?;
         reader.expect(")")?;
+    } else {
+        reader.more_numbers(&mut lead)?;
     }
     reader.end()?;
     Ok((lead, cycle))
@@ -957,7 +985,7 @@ pub fn read_trace(
     cycle: &mut [Letter],
 ) -> Result<(usize, usize), Refusal> {
     if line.len() > MAX_LINE {
-        return Err(17);
+        return Err(refused(17));
     }
     let (lead_read, cycle_read) = trace_lists(line)?;
     if lead_read
@@ -965,13 +993,13 @@ pub fn read_trace(
         .chain(cycle_read.iter())
         .any(|&letter| letter > Letter::MAX as u64)
     {
-        return Err(21);
+        return Err(refused(21));
     }
     if lead_read.len() + cycle_read.len() > MAX_LETTERS {
-        return Err(22);
+        return Err(refused(22));
     }
     if lead.len() < lead_read.len() || cycle.len() < cycle_read.len() {
-        return Err(23);
+        return Err(refused(23));
     }
     for (place, &letter) in lead.iter_mut().zip(lead_read.iter()) {
         *place = letter as Letter;
@@ -994,9 +1022,9 @@ pub fn write_node(
     out: &mut [u8],
 ) -> Result<usize, Refusal> {
     if own as usize >= MAX_LTL_NODES {
-        return Err(11);
+        return Err(refused(11));
     }
-    let places = ltl_places(kind).ok_or(12)?;
+    let places = ltl_places(kind).ok_or(refused_at(12, own as usize))?;
     check_places(places, [left, right], own as usize, [13, 14, 15])?;
     let mut line = format!("({} {}", own, LTL_NAMES[kind as usize]);
     if places[0] != Place::Unused {
@@ -1007,7 +1035,7 @@ pub fn write_node(
     }
     line.push_str(")\n");
     if out.len() < line.len() {
-        return Err(24);
+        return Err(refused(24));
     }
     out[..line.len()].copy_from_slice(line.as_bytes());
     Ok(line.len())
@@ -1033,8 +1061,8 @@ fn verdicts_of(line: &[u8], psl: &[u16], ltl: &[u16]) -> Result<String, Refusal>
     let by_psl = psl_verdict(psl, lead, cycle).expect("accepted table and trace");
     let by_ltl = match ltl_verdict(ltl, lead, cycle) {
         Ok(verdict) => yes_no(verdict),
-        Err(16) => "none",
-        Err(number) => unreachable!("refused by {}", number),
+        Err(refusal) if refusal == refused(16) => "none",
+        Err(refusal) => unreachable!("refused by {}", refusal),
     };
     Ok(format!("psl {} ltl {}", yes_no(by_psl), by_ltl))
 }
@@ -1047,7 +1075,7 @@ pub fn run(input: &[u8]) -> Vec<u8> {
     let mut psl = [0u16; 3 * MAX_PSL_NODES];
     let nodes = match read_formula(first, &mut psl) {
         Ok(nodes) => nodes,
-        Err(number) => return format!("(refused 1 {})\n", number).into_bytes(),
+        Err(refusal) => return format!("(refused 1 {})\n", refusal).into_bytes(),
     };
     let psl = &psl[..3 * nodes];
     let mut ltl = [0u16; 3 * MAX_LTL_NODES];
@@ -1065,7 +1093,7 @@ pub fn run(input: &[u8]) -> Vec<u8> {
     for (index, line) in lines.iter().enumerate().skip(1) {
         let answer = match verdicts_of(line, psl, ltl) {
             Ok(verdicts) => format!("(trace {} {})\n", index, verdicts),
-            Err(number) => format!("(refused {} {})\n", index + 1, number),
+            Err(refusal) => format!("(refused {} {})\n", index + 1, refusal),
         };
         output.extend_from_slice(answer.as_bytes());
     }

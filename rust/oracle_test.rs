@@ -1,6 +1,7 @@
 //! Tests of the evaluator that the library is compared with, by what the
 //! papers give: the sentences with known verdicts, the worked run and the
-//! short forms; and of its words. `./build oracle_test` builds it.
+//! short forms; of its words; and of the places of its refusals by their
+//! definition. `./build oracle_test` builds it.
 
 mod generate;
 mod oracle;
@@ -8,6 +9,7 @@ mod types;
 
 use generate::Rng;
 use oracle::{Word, WordLetter};
+use types::{refused, refused_at, Letter, Refusal};
 
 /// Name, formula, trace and verdict of each sentence; p is var 0, q is var 1.
 /// After c12: words by hand, TOP and BOTTOM under not and under nested aborts.
@@ -74,7 +76,7 @@ fn sentence(sentence: &str) {
     let yes = verdict == "yes";
     let empty = trace == "(finite)";
     let (by_ltl, plain) = if empty {
-        (Err(16), None)
+        (Err(refused(16)), None)
     } else {
         (Ok(yes), Some(yes))
     };
@@ -189,7 +191,11 @@ fn short_forms() {
     // The generator counts nodes by the sizes of the forms.
     let mut rng = Rng::new(12);
     for nodes in (2..1100).chain(2..1100) {
-        let due = if nodes > 1024 { Err(19) } else { Ok(nodes) };
+        let due = if nodes > 1024 {
+            Err(refused(19))
+        } else {
+            Ok(nodes)
+        };
         let line = generate::short_line(&mut rng, nodes);
         let got = read(&line).map(|table| table.len() / 3);
         assert_eq!(got, due, "{}", line.escape_ascii());
@@ -197,8 +203,252 @@ fn short_forms() {
     // A count beyond every number, which would be small again if it wrapped.
     let before = "(not ".repeat(30) + &"(iff (weak true) ".repeat(870);
     let line = format!("(psl {before}(weak true){})", ")".repeat(900));
-    assert_eq!(read(line.as_bytes()), Err(19));
-    assert_eq!(read(&line.as_bytes()[..line.len() - 1]), Err(18));
+    assert_eq!(read(line.as_bytes()), Err(refused(19)));
+    let cut = line.len() - 1;
+    assert_eq!(read(&line.as_bytes()[..cut]), Err(refused_at(18, cut)));
+}
+
+// ---------------------------------------------------------------- places
+
+/// Runs, and what each prints last: the places that the papers name.
+const REFUSED: [(&str, &str); 9] = [
+    ("", "(refused 1 18 0)"),
+    ("(psl (b", "(refused 1 18 7)"),
+    ("(psl (bn", "(refused 1 18 7)"),
+    ("(psl (weak (var 00", "(refused 1 18 17)"),
+    ("(psl (weak (var 32)))", "(refused 1 20)"),
+    ("(psl (weak true)) (finite)", "(refused 1 18 17)"),
+    ("(psl (weak true))\n\n", "(refused 2 18 0)"),
+    ("(psl (weak true))\n(finite 0) ", "(refused 2 18 10)"),
+    ("(psl (weak true))\n(lasso () (00))", "(refused 2 18 12)"),
+];
+
+/// The shape of lines by rules, without a reader: a capital may be replaced by
+/// each of its texts, and what L (formula lines) or T (trace lines) becomes
+/// until no capital is left are the lines of the shape. Whatever was begun so
+/// can be completed: by first texts, a capital comes to an end.
+const RULES: [&str; 8] = [
+    "L:(psl F)",
+    "T:(finiteM)|(lasso (O) (NM))",
+    "F:(weak B)|(strong B)|(not F)|(and F F)|(next F)|(until F F)|(abort F B)|(or F F)|\
+     (implies F F)|(iff F F)|(wnext F)|(eventually F)|(always F)|(wuntil F F)|(before F F)",
+    "B:true|(var N)|(bnot B)|(band B B)",
+    // A number; more digits; numbers or none; more numbers.
+    "N:0|1D|2D|3D|4D|5D|6D|7D|8D|9D",
+    "D:|0D|1D|2D|3D|4D|5D|6D|7D|8D|9D",
+    "O:|NM",
+    "M:| NM",
+];
+
+fn texts(capital: u8) -> std::str::Split<'static, char> {
+    let rule = RULES.iter().find(|rule| rule.as_bytes()[0] == capital);
+    rule.expect("a capital with a rule")[2..].split('|')
+}
+
+/// What may follow some bytes, last byte first: bytes and capitals.
+type Following = Vec<u8>;
+
+/// Replaces a capital that comes next, in every way, until a byte or nothing
+/// comes next.
+fn replaced(following: Following, all: &mut Vec<Following>) {
+    match following.last() {
+        Some(&capital) if capital.is_ascii_uppercase() => {
+            for text in texts(capital) {
+                let mut one = following.clone();
+                one.pop();
+                one.extend(text.bytes().rev());
+                replaced(one, all);
+            }
+        }
+        _ => all.push(following),
+    }
+}
+
+/// The place of refusal 18 by its definition, or none where the line is of the
+/// shape: the first byte such that nothing may follow the bytes up to it. And
+/// a line of the shape that begins with the bytes before that place.
+fn place_of(shape: u8, line: &[u8]) -> (Option<usize>, Vec<u8>) {
+    let mut all = Vec::new();
+    replaced(vec![shape], &mut all);
+    for (at, byte) in line.iter().enumerate() {
+        let mut after = Vec::new();
+        for following in &all {
+            if let Some((next, rest)) = following.split_last() {
+                if next == byte {
+                    replaced(rest.to_vec(), &mut after);
+                }
+            }
+        }
+        if after.is_empty() {
+            return (Some(at), completed(&line[..at], &all[0]));
+        }
+        all = after;
+    }
+    let is_line = all.iter().any(|following| following.is_empty());
+    let place = (!is_line).then_some(line.len());
+    (place, completed(line, &all[0]))
+}
+
+/// Some bytes and what may follow, each capital replaced by its first text.
+fn completed(line: &[u8], following: &[u8]) -> Vec<u8> {
+    let mut line = line.to_vec();
+    for &next in following.iter().rev() {
+        if next.is_ascii_uppercase() {
+            let text = texts(next).next().unwrap_or_default();
+            line = completed(&line, &text.bytes().rev().collect::<Vec<u8>>());
+        } else {
+            line.push(next);
+        }
+    }
+    line
+}
+
+/// Has a line read, for what it is refused by.
+fn refusal_of(shape: u8, line: &[u8]) -> Option<Refusal> {
+    if shape == b'L' {
+        let mut table = [0; 3 * oracle::MAX_PSL_NODES];
+        oracle::read_formula(line, &mut table).err()
+    } else {
+        let (mut lead, mut cycle) = ([0 as Letter; 64], [0 as Letter; 64]);
+        oracle::read_trace(line, &mut lead, &mut cycle).err()
+    }
+}
+
+/// The evaluator's place is that of the definition.
+fn check_place(shape: u8, line: &[u8]) {
+    let shown = || line.escape_ascii().to_string();
+    let (place, completed) = place_of(shape, line);
+    let refusal = refusal_of(shape, line);
+    match place {
+        Some(place) => assert_eq!(refusal, Some(refused_at(18, place)), "{}", shown()),
+        None => assert!(
+            refusal.is_none_or(|it| it.number != 18 && it.place.is_none()),
+            "{}",
+            shown()
+        ),
+    }
+    let refusal = refusal_of(shape, &completed);
+    assert!(refusal.is_none_or(|it| it.number != 18), "{}", shown());
+}
+
+/// Lines with every keyword, of which each damage of one byte is tried.
+const DAMAGED: [(u8, &str); 6] = [
+    (
+        b'L',
+        "(psl (or (implies (before (wnext (weak true)) (strong (var 10))) (not (weak true))) \
+         (iff (eventually (weak true)) (wuntil (always (weak true)) (abort (weak true) true)))))",
+    ),
+    (
+        b'L',
+        "(psl (and (next (weak (bnot true))) (until (strong (band (var 0) true)) (weak true))))",
+    ),
+    (b'L', "(psl (weak (var 4294967296)))"),
+    (b'T', "(finite)"),
+    (b'T', "(finite 0 10 4294967296)"),
+    (b'T', "(lasso (1 20) (0 305))"),
+];
+
+/// Every byte replaced, inserted, left out, and the line cut before it.
+fn check_damages(shape: u8, line: &[u8]) {
+    for at in 0..=line.len() {
+        let (before, after) = line.split_at(at);
+        let after_it = after.get(1..).unwrap_or_default();
+        check_place(shape, before);
+        check_place(shape, &[before, after_it].concat());
+        for byte in 0..=255 {
+            check_place(shape, &[before, &[byte], after].concat());
+            check_place(shape, &[before, &[byte], after_it].concat());
+        }
+    }
+}
+
+/// Beginnings, after each of which every text of at most so many of some bytes
+/// is tried.
+const BEGUN: [(u8, &str, usize, &str); 7] = [
+    (b'T', "", 5, "(finlaso"),
+    (b'T', "(finite", 6, "( 01)"),
+    (b'T', "(lasso (", 6, "( 01)"),
+    (b'T', "(lasso () (", 6, "( 09)"),
+    (b'L', "", 5, "(psl wea"),
+    (b'L', "(psl ", 4, "( weakntilfborv"),
+    (b'L', "(psl (weak ", 4, "( truevabndo0)"),
+];
+
+fn check_texts(shape: u8, begun: Vec<u8>, most: usize, bytes: &[u8]) {
+    check_place(shape, &begun);
+    for byte in bytes {
+        if most > 0 {
+            check_texts(shape, [&begun, &[*byte][..]].concat(), most - 1, bytes);
+        }
+    }
+}
+
+fn line_places() {
+    for (input, last) in REFUSED {
+        let output = oracle::run(input.as_bytes());
+        assert!(output.ends_with(format!("{last}\n").as_bytes()), "{input}");
+    }
+    for (shape, line) in DAMAGED {
+        check_damages(shape, line.as_bytes());
+    }
+    for (shape, begun, most, bytes) in BEGUN {
+        check_texts(shape, begun.into(), most, bytes.as_bytes());
+    }
+    let mut rng = Rng::new(13);
+    for _ in 0..20_000 {
+        for (shape, line) in [
+            (b'L', generate::any_formula_line(&mut rng)),
+            (b'T', generate::any_trace_line(&mut rng)),
+        ] {
+            if line.len() <= oracle::MAX_LINE {
+                check_place(shape, &line);
+            }
+        }
+    }
+}
+
+/// How often a node of a PSL table is an operand.
+fn uses(table: &[u16], node: usize) -> usize {
+    let users = (0..table.len() / 3).flat_map(|user| generate::operands(table, user));
+    users.filter(|&(_, operand)| operand == node).count()
+}
+
+type Check = fn(&[u16]) -> Result<(), Refusal>;
+
+/// The place of a check's refusal. That of a node's own test is the last node
+/// of the shortest list that is refused by such a test, whose number decides.
+fn check_table(check: Check, tests: &[u8], table: &[u16]) {
+    let Err(refusal) = check(table) else {
+        return;
+    };
+    let nodes = table.len() / 3;
+    let by_test = |nodes: usize| {
+        let refusal = check(&table[..3 * nodes]).err();
+        refusal.filter(|refusal| tests.contains(&refusal.number))
+    };
+    let place = match refusal.number {
+        1 | 11 => None,
+        7 => (0..nodes - 1).find(|&node| uses(table, node) != 1),
+        8 => Some(nodes - 1),
+        _ => {
+            let least = (1..=nodes).find(|&nodes| by_test(nodes).is_some());
+            assert_eq!(least.and_then(by_test), Some(refusal), "{table:?}");
+            least.map(|nodes| nodes - 1)
+        }
+    };
+    assert_eq!(refusal.place, place, "{table:?}");
+}
+
+fn node_places() {
+    let mut rng = Rng::new(14);
+    for _ in 0..40_000 {
+        let psl = generate::any_psl_table(&mut rng);
+        let ltl = generate::any_ltl_table(&mut rng);
+        if psl.len().max(ltl.len()) < 300 {
+            check_table(oracle::check_psl, &[2, 3, 4, 5, 6], &psl);
+            check_table(oracle::check_ltl, &[12, 13, 14, 15], &ltl);
+        }
+    }
 }
 
 fn main() {
@@ -207,8 +457,10 @@ fn main() {
     assert_eq!(String::from_utf8(output).unwrap(), WORKED_OUTPUT);
     words();
     short_forms();
+    line_places();
+    node_places();
     println!(
-        "oracle_test: {} sentences, the worked run, words and short forms passed",
+        "oracle_test: {} sentences, the worked run, words, short forms and places passed",
         SENTENCES.lines().count()
     );
 }

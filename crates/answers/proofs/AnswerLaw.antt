@@ -1,5 +1,5 @@
 -- What the readers, the translator and the verdicts answer, in the terms of a run.
-use Rattle.std.specs.Prelude.{Bool, true, false, Result, Ok, Err}
+use Rattle.std.specs.Prelude.{Bool, true, false, Some, Result, Ok, Err}
 use Rattle.trace.specs.declared.refusal.Refusal.TheVariants.{EmptyTrace, ListRoom}
 use mathlib.Core.Path.{◌≡◌, refl, ap, sym, subst, ◌∙◌}
 use mathlib.Core.Option.{Option, none, some, some-ne-none}
@@ -12,7 +12,8 @@ use lib.ListN.{length, take, replicate, length-replicate, length-take}
 use Rattle.trace.specs.Limits.{most_letters}
 use Rattle.logic.specs.Trace.{size}
 use Rattle.trace.specs.declared.refusal.Refusal.{Refusal}
-use Rattle.trace.specs.Refusal.{unless}
+use Rattle.trace.specs.Refusal.{place, unless}
+use Rattle.text.specs.Limits.{most_bytes}
 use Rattle.trace.specs.Verdict.{Judges}
 use Rattle.table.specs.Node.{numbers_of}
 use Rattle.table.proofs.NodeLaw.{length-numbers}
@@ -38,12 +39,14 @@ use Rattle.trace_lines.specs.Spelling.{TraceLists, line_of_trace}
 use Rattle.text.specs.Reading.{Takes, Refuses}
 use Rattle.formula_lines.specs.FormulaAnswer.{table_nodes, formula_limits, formula_refusal, FormulaAnswer}
 use Rattle.trace_lines.specs.TraceAnswer.{trace_limits, TraceAnswer}
-use Rattle.text.proofs.ReadingLaw.{takes_by, refuses_by, front-take, front_length}
-use Rattle.formula_lines.proofs.LimitsLaw.{limits-few, limits-accepted, formula-room}
+use Rattle.text.proofs.ReadingLaw.{takes_by, refuses_by, place_within, front-take, front_length}
+use Rattle.formula_lines.proofs.LimitsLaw.{limits-few, limits-accepted, limits-unplaced, formula-room}
+use Rattle.trace_lines.proofs.LimitsLaw as trace
 use Rattle.trace_lines.proofs.LimitsLaw.{limits-short, trace-room}
 use Rattle.psl.proofs.ClosingLaw.{closing_formula}
 use Rattle.answers.specs.Answer.{VerdictOn, LaterAnswer}
-use Rattle.answers.specs.Inner.{TablesOf, Accepted}
+use Rattle.answers.specs.Inner.{PlacedWithin, TablesOf, Accepted}
+use Rattle.answers.specs.declared.Verdicts.{Verdicts}
 
 -- ── The tables of a formula within the limits ──
 
@@ -55,6 +58,9 @@ tables_accepted {f} {psl} {ltl} a =
     (ap psl_refusal a.read ∙ e, ap ltl_refusal (a.translated ∙ sym g) ∙ emitted-accepted t e (omega (arith, size-most t e)))
 
 -- ── Line 1 ──
+
+pub first_place : {line : List ℕ} {x : Refusal} → Refuses formula_line formula_limits line x → (p : ℕ) → place x ≡ Some p → p ≤ most_bytes
+first_place = place_within limits-unplaced
 
 -- A list that took a translation had room for it.
 pub translation-few : {t l m : List ℕ} {s : ℕ} → Delivers t l (Ok s) m → (s ≤ ltl_rules.most) × (3 * s ≤ length m)
@@ -135,6 +141,9 @@ enough = omega (arith, length-replicate {A = ℕ} most_letters 0)
 module _ (line l m : List ℕ) where
   pub later_refused : {x : Refusal} → TraceAnswer line room room (Err x) l m → Refuses line_of_trace trace_limits line x
   later_refused (a, _, _) = refuses_by (λ t. trace-room t (length room) (length room) enough enough) a
+
+  pub later_place : {x : Refusal} → TraceAnswer line room room (Err x) l m → PlacedWithin {A = Verdicts} (Err x)
+  later_place a = place_within trace.limits-unplaced (later_refused a)
 
   module _ (a b : ℕ) (r : TraceAnswer line room room (Ok (record { lead = a; cycle = b })) l m) where
     abbrev t : TraceLists

@@ -28,13 +28,15 @@ use Rattle.translate.proofs.TranslatesLaw.{translates}
 use Rattle.psl_verdict.specs.Verdict.{psl_verdict_refusal, PslJudges}
 use Rattle.ltl_verdict.specs.Verdict.{ltl_verdict_refusal, LtlJudges}
 use Rattle.text.specs.Text.{text}
-use Rattle.text.proofs.ReadingLaw.{taken_alone, not_both, refused_alone}
+use Rattle.text.proofs.ReadingLaw.{taken_alone, not_both, refused_alone, place_within}
 use Rattle.formula_lines.specs.Spelling.{formula_line}
 use Rattle.formula_lines.specs.FormulaAnswer.{formula_limits}
 use Rattle.formula_lines.proofs.FormulaLaw.{formula_injective}
 use Rattle.trace_lines.specs.Spelling.{TraceLists, line_of_trace}
 use Rattle.trace_lines.specs.TraceAnswer.{trace_limits}
 use Rattle.trace_lines.proofs.TraceLaw.{trace_alone}
+use Rattle.trace_lines.proofs.LimitsLaw.{limits-unplaced}
+use Rattle.answers.specs.Inner.{PlacedWithin}
 use Rattle.printing.specs.Printed.{refused_text, verdict_text, table_text}
 use Rattle.printing.specs.Limits.{most_later}
 use Rattle.printing.proofs.PrintedLaw.{trace-short, refused-short}
@@ -141,9 +143,13 @@ prints_alone (line ∷ ls) out out' (inr (x, a, e)) (inr (y, b, e')) =
 
 -- ── Lengths ──
 
-pub later-short : (i : ℕ) (a : Result Verdicts Refusal) → i + 1 < 2 ^ 64 → length (later_text i a) ≤ most_later
-later-short i (Ok b) h = trace-short i _ _ (omega arith)
-later-short i (Err x) h = refused-short (suc i) x (omega arith)
+pub later-short : (i : ℕ) (a : Result Verdicts Refusal) → PlacedWithin a → i + 1 < 2 ^ 64 → length (later_text i a) ≤ most_later
+later-short i (Ok b) w h = trace-short i _ _ (omega arith)
+later-short i (Err x) w h = refused-short (suc i) x (omega arith) (λ p e. omega (arith, w p e))
+
+later_within : (f : Formula) (line : List ℕ) (a : Result Verdicts Refusal) → LaterAnswer f line a → PlacedWithin a
+later_within f line (Ok b) e = tt
+later_within f line (Err x) e = place_within limits-unplaced e
 
 pub claims : Claims
 claims =
@@ -154,5 +160,5 @@ claims =
       one_output = λ input out out' p q. prints_alone (input_lines input) out out' p q;
       none_ltl = none_ltl;
       none_psl = λ f t v w j. decided f t (HoldsOn f t.lead t.loop) v j.psl;
-      later_short = later-short;
+      later_short = λ f line i a e. later-short i a (later_within f line a e);
     }

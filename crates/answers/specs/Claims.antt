@@ -31,4 +31,4 @@ pub record Claims : Type 0 where
   pub none_ltl : (f : Formula) (t : TraceLists) (v w : Result Bool Refusal) → Judged f t v w → (verdict_text w ≡ text "none") ↔ (size t.lead t.loop ≡ 0)
   pub none_psl : (f : Formula) (t : TraceLists) (v w : Result Bool Refusal) → Judged f t v w → verdict_text v ≡ text "none" → ⊥
   -- No answer to a trace line has more bytes, where its line's number fits 64 bits.
-  pub later_short : (i : ℕ) (a : Result Verdicts Refusal) → i + 1 < 2 ^ 64 → length (later_text i a) ≤ most_later
+  pub later_short : (f : Formula) (line : List ℕ) (i : ℕ) (a : Result Verdicts Refusal) → LaterAnswer f line a → i + 1 < 2 ^ 64 → length (later_text i a) ≤ most_later

@@ -10,6 +10,7 @@ use Rattle.trace_lines.proofs.ClaimsLaw as traces
 use Rattle.brancadol.specs.Coded.{verdict_code, count_code, trace_code}
 use Rattle.brancadol.specs.Answer.{PslCoded, LtlCoded, TranslationCoded, FormulaCoded, TraceCoded}
 use Rattle.brancadol.specs.Claims.{Claims}
+use Rattle.brancadol.proofs.RefusedLaw.{one_refusal}
 
 -- Equal answers have equal codes.
 one_code : {A : Type 0} {a b : A} (coded : A → ℕ) {r r' : ℕ} → a ≡ b → r ≡ coded a → r' ≡ coded b → r ≡ r'
@@ -38,4 +39,4 @@ one_trace s k l r r' m m' n n' (a, d, p) (b, e, q) =
 
 pub claims : Claims
 claims =
-    record { one_psl = one_psl; one_ltl = one_ltl; one_translation = one_translation; one_formula = one_formula; one_trace = one_trace }
+    record { one_refusal = one_refusal; one_psl = one_psl; one_ltl = one_ltl; one_translation = one_translation; one_formula = one_formula; one_trace = one_trace }

@@ -1,1 +1,3 @@
+-- Laws that the proofs share.
+pub mod RefusedLaw
 pub mod ClaimsLaw

@@ -1,7 +1,7 @@
 -- An answer as one number of 64 bits: a number and 256 × a value.
-use Rattle.std.specs.Prelude.{ℕ, ◌+◌, ◌*◌, ◌%◌, Bool, Result, Ok, Err}
+use Rattle.std.specs.Prelude.{ℕ, ◌+◌, ◌*◌, ◌%◌, Bool, Option as Maybe, None, Some, Result, Ok, Err}
 use Rattle.trace.specs.declared.refusal.Refusal.{Refusal}
-use Rattle.trace.specs.Refusal.{number}
+use Rattle.trace.specs.Refusal.{number, place}
 use Rattle.trace_lines.specs.declared.Lengths.{Lengths}
 use Rattle.brancadol.specs.Value.{nothing, verdict, lengths}
 
@@ -9,12 +9,17 @@ use Rattle.brancadol.specs.Value.{nothing, verdict, lengths}
 abbrev pub code : ℕ → ℕ → ℕ
 code number value = number + 256 * (value % 72057594037927936)
 
--- A success has the number 0 and the value that the operation gives; a refusal has its number, and no value.
+-- A success has the number 0 and the value that the operation gives.
 abbrev pub success_code : ℕ → ℕ
 success_code value = code 0 value
 
+-- A refusal has its number, and the value 0 or, where it carries a place, 1 + the place.
+abbrev pub place_value : Maybe ℕ → ℕ
+place_value None = 0
+place_value (Some p) = 1 + p
+
 abbrev pub refusal_code : Refusal → ℕ
-refusal_code x = code (number x) 0
+refusal_code x = code (number x) (place_value (place x))
 
 -- The code of any answer, by the value of its success.
 abbrev pub answer_code : {A : Type 0} → (A → ℕ) → Result A Refusal → ℕ

@@ -1,4 +1,5 @@
 pub mod Value
 pub mod Coded
 pub mod Answer
+pub mod Refused
 pub mod Claims

@@ -6,7 +6,7 @@
 
 mod value;
 
-ghost use Rattle.std.specs.Prelude.{◌≡◌, length};
+ghost use Rattle.std.specs.Prelude.{◌≡◌, ◌%◌, length};
 ghost use Rattle.std.proofs.lemmas.List.Edits.{sets};
 ghost use Rattle.logic.specs.Trace.{letter_at};
 ghost use Rattle.trace.specs.Answer.{rest_of, found};
@@ -16,7 +16,7 @@ ghost use Rattle.ltl.specs.Check.{ltl_refusal};
 ghost use Rattle.table.specs.Node.{node};
 ghost use Rattle.node_lines.specs.Spelling.{node_line};
 ghost use Rattle.node_lines.specs.NodeAnswer.{node_answer, node_list};
-ghost use Rattle.brancadol.specs.Coded.{code, success_code, refusal_code, answer_code, found_code, checked_code, count_code};
+ghost use Rattle.brancadol.specs.Coded.{code, success_code, place_value, refusal_code, answer_code, found_code, checked_code, count_code};
 ghost use Rattle.brancadol.specs.Answer.{letter_after, PslCoded, LtlCoded, TranslationCoded, FormulaCoded, TraceCoded};
 
 use crate::value::Value;
@@ -41,10 +41,21 @@ fn success_code(value: u64) -> u64
     coded(0, value)
 }
 
+// 0, or 1 + the place. What an answer has no room for is left out before the sum, which stays below 2^64 so.
+fn place_value(place: Option<usize>) -> u64
+    ensures { result % 72057594037927936 ≡ place_value place % 72057594037927936 }
+{
+    match place {
+        None => 0,
+        Some(p) => 1 + (p as u64) % VALUES,
+    }
+}
+
 fn refusal_code(x: Refusal) -> u64
     ensures { result ≡ refusal_code x }
 {
-    coded(u8::from(x), 0)
+    let (number, place) = x.told();
+    coded(number, place_value(place))
 }
 
 // The code of any answer.

@@ -1,5 +1,4 @@
-// What a success gives, as one number: so that all answers are coded by one function. The library exports, the older boundary, has a trait of its own for its
-// other codes.
+// What a success gives, as one number: so that all answers are coded by one function.
 ghost use Rattle.std.specs.Prelude.{◌≡◌, ℕ};
 ghost use Rattle.brancadol.specs.Value.{nothing, verdict, lengths};
 

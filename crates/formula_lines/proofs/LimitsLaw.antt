@@ -1,7 +1,7 @@
 -- What the limits of a formula line say of its formula; where there is room for the largest table, 23 is never due.
-use mathlib.Core.Path.{◌≡◌}
+use mathlib.Core.Path.{◌≡◌, refl}
 use mathlib.Core.Bool.{Bool, not}
-use mathlib.Core.Option.{none}
+use mathlib.Core.Option.{none, some}
 use Prim.Native.Nat.{ℕ, ◌*◌, ◌≤◌}
 use native.Mathlib.Omega.{arith}
 use borrow.Author.Tests.{leb-true, le-leb, not-true}
@@ -9,9 +9,12 @@ use lib.Dec.{leb}
 use lib.ListN.{length}
 use Rattle.table.specs.Node.{numbers_of}
 use Rattle.trace.specs.declared.refusal.Refusal.TheVariants.{ManyNodes, LargeSignal, ListRoom}
+use Rattle.std.specs.Prelude.{None}
+use Rattle.trace.specs.declared.refusal.Refusal.{Refusal}
+use Rattle.trace.specs.Refusal.{place}
 use Rattle.logic.specs.Written.{Written, spelled_out}
 use Rattle.psl.specs.Check.{psl_rules, psl_refusal}
-use Rattle.text.proofs.LimitsLaw.{passed, third}
+use Rattle.text.proofs.LimitsLaw.{passed, unplaced, or_unplaced, third}
 use Rattle.psl.specs.Closing.{large_signal}
 use Rattle.formula_lines.specs.FormulaAnswer.{table_nodes, formula_limits, formula_refusal}
 use Rattle.psl.proofs.ClosingCheckLaw.{closing_accepted}
@@ -33,6 +36,15 @@ module _ (w : Written) where
   limits-accepted e =
       let (p, q) = passed few small ManyNodes LargeSignal e in
       closing_accepted (spelled_out w) (leb-true _ _ p) (not-true (large_signal (spelled_out w)) q)
+
+  -- No limit carries a place.
+  pub limits-unplaced : (z : Refusal) → formula_limits w ≡ some z → place z ≡ None
+  unfolding formula_limits
+  limits-unplaced z e = unplaced few small ManyNodes LargeSignal refl refl z e
+
+  pub refusal-unplaced : (room : ℕ) (z : Refusal) → formula_refusal room w ≡ some z → place z ≡ None
+  unfolding formula_refusal
+  refusal-unplaced room z e = or_unplaced (formula_limits w) limits-unplaced _ ListRoom refl z e
 
   pub formula-room : (room : ℕ) → 3 * psl_rules.most ≤ room → formula_refusal room w ≡ formula_limits w
   unfolding formula_limits formula_refusal

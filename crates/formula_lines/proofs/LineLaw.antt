@@ -105,7 +105,7 @@ module _ {s : List ℕ} {start : ℕ} (o : Psl s start) where
 pub too_long : (s l : List ℕ) → most_bytes < length s → FormulaAnswer s l (Err LongLine) l
 too_long s l h = (record { reading = long h; reason = refl }, refl)
 
-pub no-formula : (s l : List ℕ) {p : ℕ} → length s ≤ most_bytes → StopsLine SpellsFormula s 0 p → FormulaAnswer s l (Err Shape) l
+pub no-formula : (s l : List ℕ) {p : ℕ} → length s ≤ most_bytes → StopsLine SpellsFormula s 0 p → FormulaAnswer s l (Err (Shape p)) l
 no-formula s l {p} h a = (record { reading = breaks h p (breaks-at (λ w x. x) (λ f. (f, refl)) a); reason = refl }, refl)
 
 -- The line spells f; a and b are the list that it was read into, before and after.

@@ -1,6 +1,6 @@
 -- The kinds of an LTL node, and their numbers.
 use Rattle.std.specs.Prelude.{ℕ, Result}
-use Rattle.trace.specs.declared.refusal.Refusal.{Refusal}
+use Rattle.table.specs.declared.kind.NoKind.{NoKind}
 use Rattle.ltl.specs.declared.kind.Kind.{Kind}
 use Rattle.ltl.specs.declared.kind.Kind.TheVariants.{True, Var, Not, And, Or, Next, Until}
 use Rattle.table.specs.Kind.{KindIs as IsKind}
@@ -15,6 +15,6 @@ number Or = 4
 number Next = 5
 number Until = 6
 
--- The kind that a number stands for, or the refusal of a number that is no kind.
-abbrev pub KindIs : ℕ → Result Kind Refusal → Type 0
+-- The kind that a number stands for, or that it is no kind.
+abbrev pub KindIs : ℕ → Result Kind NoKind → Type 0
 KindIs n r = IsKind ltl_rules number n r

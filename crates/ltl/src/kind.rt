@@ -2,7 +2,7 @@
 ghost use Rattle.std.specs.Prelude.{◌≡◌};
 ghost use Rattle.ltl.specs.Kind.{number, KindIs};
 
-use table::{Place, Refusals};
+use table::{NoKind, NodeNo, Place, Refusals};
 use trace::Refusal;
 
 // Each has the number that stands for it in a table.
@@ -26,11 +26,11 @@ impl From<Kind> for u16 {
 }
 
 impl TryFrom<u16> for Kind {
-    type Error = Refusal;
+    type Error = NoKind;
 
     ghost try_from_gives = { KindIs };
 
-    fn try_from(n: u16) -> Result<Kind, Refusal> {
+    fn try_from(n: u16) -> Result<Kind, NoKind> {
         Ok(match n {
             0 => Kind::True,
             1 => Kind::Var,
@@ -39,7 +39,7 @@ impl TryFrom<u16> for Kind {
             4 => Kind::Or,
             5 => Kind::Next,
             6 => Kind::Until,
-            _ => return Err(Refusal::LtlKind),
+            _ => return Err(NoKind),
         })
     }
 }
@@ -63,7 +63,7 @@ impl table::Kind for Kind {
 
     ghost rules = { ltl_rules };
 
-    fn from_number(n: u16) -> Result<Kind, Refusal> {
+    fn from_number(n: u16) -> Result<Kind, NoKind> {
         Kind::try_from(n)
     }
 
@@ -76,11 +76,13 @@ impl table::Kind for Kind {
         false
     }
 
-    fn refusals() -> Refusals {
+    fn refusals(i: NodeNo) -> Refusals {
+        let node = i.0;
         Refusals {
-            unused: Refusal::LtlUnused,
-            signal: Refusal::LtlSignal,
-            operand: Refusal::LtlOperand,
+            kind: Refusal::LtlKind { node },
+            unused: Refusal::LtlUnused { node },
+            signal: Refusal::LtlSignal { node },
+            operand: Refusal::LtlOperand { node },
             sort: None,
         }
     }

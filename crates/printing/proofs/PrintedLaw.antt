@@ -1,5 +1,5 @@
 -- What each writer of an answer's text gives.
-use Rattle.std.specs.Prelude.{Bool, true, false, Result, Ok, Err}
+use Rattle.std.specs.Prelude.{Bool, true, false, Option as Maybe, None, Some, Result, Ok, Err}
 use mathlib.Core.Path.{◌≡◌, refl, ap, sym, subst, ◌∙◌}
 use mathlib.Core.List.{List, [], ◌∷◌, ◌++◌, append_assoc, append-nil}
 use mathlib.Core.Option.{none}
@@ -9,8 +9,8 @@ use native.Mathlib.Decide.{dec_lt}
 use native.Mathlib.Numerals.{add-one}
 use lib.ListN.{get_or, length, take, length-append, length-take}
 use Rattle.trace.specs.declared.refusal.Refusal.{Refusal}
-use Rattle.trace.specs.Refusal.{number}
-use Rattle.trace.proofs.NumberLaw.{number_small}
+use Rattle.trace.specs.Refusal.{number, place}
+use Rattle.trace.proofs.ToldLaw.{number_small}
 use Rattle.table.specs.Node.{count, kind_at, left_at, right_at, node_at}
 use Rattle.table.specs.Rules.{Use, unused, signal, operand, shape_of}
 use Rattle.table.specs.Inner.Place.{bound}
@@ -18,22 +18,39 @@ use Rattle.table.proofs.CheckLaw.{left-fits, right_fits}
 use Rattle.ltl.specs.Check.{ltl_rules, ltl_refusal}
 use Rattle.ltl.proofs.AcceptedLaw.{most-nodes}
 use Rattle.text.specs.Text.{text}
-use Rattle.text.specs.Spelling.{digits, brackets}
+use Rattle.text.specs.Spelling.{digits, ending, brackets}
 use Rattle.node_lines.specs.Spelling.{node_line}
 use Rattle.text.proofs.NumberLaw.{digits-short}
 use Rattle.node_lines.proofs.WriterLaw.{line_length}
-use Rattle.printing.specs.Printed.{refused_text, verdict_text, trace_text, node_lines, table_text}
+use Rattle.printing.specs.Printed.{place_part, refused_text, verdict_text, trace_text, node_lines, table_text}
 use Rattle.printing.specs.Inner.{TablePut}
 use Rattle.printing.specs.Limits.{most_first, most_later, longest_verdict}
 
-refused-bytes : (line : ℕ) (x : Refusal) → refused_text line x ≡ text "(refused " ++ (digits line ++ (text " " ++ (digits (number x) ++ text ")\n")))
+-- A line's end, the place in front of it.
+abbrev pub end_of : Maybe ℕ → List ℕ
+end_of p = ending (place_part p) ++ text "\n"
+
+end_short : (o : Maybe ℕ) → ((p : ℕ) → o ≡ Some p → p < 2 ^ 64) → length (end_of o) ≤ 23
+end_short None h = omega arith
+end_short (Some p) h = simp length-append (omega (arith, digits-short 19 p (omega (arith, h p refl))))
+
+refused-bytes : (line : ℕ) (x : Refusal) → refused_text line x ≡ text "(refused " ++ (digits line ++ (text " " ++ (digits (number x) ++ end_of (place x))))
 unfolding refused_text
 refused-bytes line x = simp append_assoc
 
-pub refused-short : (line : ℕ) (x : Refusal) → line < 2 ^ 64 → length (refused_text line x) ≤ most_later
-refused-short line x h =
+pub refused-short : (line : ℕ) (x : Refusal) → line < 2 ^ 64 → ((p : ℕ) → place x ≡ Some p → p < 2 ^ 64) → length (refused_text line x) ≤ most_later
+refused-short line x h g =
     subst (λ (w : List ℕ). length w ≤ most_later) (sym (refused-bytes line x))
-    (simp length-append (omega (arith, digits-short 19 line (omega arith), digits-short 2 (number x) (omega (arith, number_small x)))))
+    (omega (
+      arith,
+      length-append (text "(refused ") (digits line ++ (text " " ++ (digits (number x) ++ end_of (place x)))),
+      length-append (digits line) (text " " ++ (digits (number x) ++ end_of (place x))),
+      length-append (text " ") (digits (number x) ++ end_of (place x)),
+      length-append (digits (number x)) (end_of (place x)),
+      digits-short 19 line (omega arith),
+      digits-short 2 (number x) (omega (arith, number_small x)),
+      end_short (place x) g,
+    ))
 
 pub verdict_short : (v : Result Bool Refusal) → length (verdict_text v) ≤ longest_verdict
 unfolding verdict_text
@@ -62,8 +79,13 @@ Printed Put t a i b = Put a (table_head t ++ node_lines t i) b
 
 -- Whatever texts are put into.
 module _ {S : Type 0} (Put : S → List ℕ → S → Type 0) (join : (a b c : S) (v w : List ℕ) → Put a v b → Put b w c → Put a (v ++ w) c) where
+  pub place_put : (p : ℕ) {a b c d : S} → Put a (text " ") b → Put b (digits p) c → Put c (text ")\n") d → Put a (end_of (Some p)) d
+  place_put p {a} {d = z} q r s =
+      let e : end_of (Some p) ≡ text " " ++ (digits p ++ text ")\n") = simp append_assoc in
+      subst (λ (w : List ℕ). Put a w z) (sym e) (join _ _ _ _ _ q (join _ _ _ _ _ r s))
+
   pub refused_put : (line : ℕ) (x : Refusal) {a b c d e f : S} → Put a (text "(refused ") b → Put b (digits line) c → Put c (text " ") d → Put d (digits (number x)) e
-      → Put e (text ")\n") f → Put a (refused_text line x) f
+      → Put e (end_of (place x)) f → Put a (refused_text line x) f
   refused_put line x {a} {f = z} p q r s t =
       subst (λ (w : List ℕ). Put a w z) (sym (refused-bytes line x)) (join _ _ _ _ _ p (join _ _ _ _ _ q (join _ _ _ _ _ r (join _ _ _ _ _ s t))))
 

@@ -1,15 +1,20 @@
 -- What a run prints. Each line ends with byte 10.
-use Rattle.std.specs.Prelude.{List, [], ◌∷◌, ◌++◌, ℕ, zero, suc, Bool, true, false, Result, Ok, Err}
+use Rattle.std.specs.Prelude.{List, [], ◌∷◌, ◌++◌, ℕ, zero, suc, Bool, true, false, Option as Maybe, None, Some, Result, Ok, Err}
 use Rattle.trace.specs.declared.refusal.Refusal.{Refusal}
-use Rattle.trace.specs.Refusal.{number}
+use Rattle.trace.specs.Refusal.{number, place}
 use Rattle.table.specs.Node.{count, node_at}
 use Rattle.text.specs.Text.{text}
 use Rattle.text.specs.Spelling.{digits, brackets}
 use Rattle.node_lines.specs.Spelling.{node_line}
 
--- `(refused L R)`: the line's number and the refusal.
+-- A refusal's place, if it carries one.
+abbrev pub place_part : Maybe ℕ → List (List ℕ)
+place_part None = []
+place_part (Some p) = digits p ∷ []
+
+-- `(refused L R)` or `(refused L R P)`: the line's number, and the refusal's number and place.
 unfoldable pub refused_text : ℕ → Refusal → List ℕ
-refused_text line x = brackets (text "refused" ∷ digits line ∷ digits (number x) ∷ []) ++ text "\n"
+refused_text line x = brackets (text "refused" ∷ digits line ∷ digits (number x) ∷ place_part (place x)) ++ text "\n"
 
 -- A verdict; `none` where it is refused.
 unfoldable pub verdict_text : Result Bool Refusal → List ℕ

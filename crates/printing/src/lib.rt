@@ -1,8 +1,10 @@
 // The text of a run's answers: by functions and not by Display, of whose text no contract can speak.
 #![tactic(auto)]
 
-ghost use Rattle.std.specs.Prelude.{◌≡◌};
-ghost use Rattle.printing.specs.Printed.{refused_text, verdict_text, trace_text};
+ghost use Rattle.std.specs.Prelude.{◌≡◌, ◌++◌};
+ghost use Rattle.text.specs.Text.{text};
+ghost use Rattle.text.specs.Spelling.{ending};
+ghost use Rattle.printing.specs.Printed.{place_part, refused_text, verdict_text, trace_text};
 ghost use Rattle.printing.specs.Inner.{TablePut};
 
 use node_lines::put_line;
@@ -10,15 +12,28 @@ use table::{Node, NodeNo, nodes_of};
 use text::put::{Sink, put_byte, put_number};
 use trace::{Refusal, Verdict};
 
-// `(refused L R)`
+// A refusal's place behind its number, if it carries one, and the line's end.
+fn put_place<S: Sink>(out: &mut S, place: Option<usize>)
+    ensures { S.Put out.old (ending (place_part place) ++ text "\n") out.new }
+{
+    let Some(p) = place else {
+        return out.put_text(b")\n");
+    };
+    put_byte(out, b' ');
+    put_number(out, p as u64);
+    out.put_text(b")\n");
+}
+
+// `(refused L R)`, or `(refused L R P)` with the place.
 pub fn put_refused<S: Sink>(out: &mut S, line: u64, x: Refusal)
     ensures { S.Put out.old (refused_text line x) out.new }
 {
+    let (number, place) = x.told();
     out.put_text(b"(refused ");
     put_number(out, line);
     put_byte(out, b' ');
-    put_number(out, u64::from(u8::from(x)));
-    out.put_text(b")\n");
+    put_number(out, u64::from(number));
+    put_place(out, place);
 }
 
 // The word of a verdict.

@@ -3,7 +3,6 @@ use Rattle.trace.specs.declared.refusal.Refusal.TheVariants.{PslRoot, PslUse}
 use mathlib.Core.Path.{◌≡◌, refl, sym, ap, ◌∙◌, subst}
 use mathlib.Core.Bool.{Bool, true, false, not, ◌&&◌}
 use mathlib.Core.Option.{Option, none, some}
-use mathlib.Core.Logic.{◌⊎◌, inl, inr}
 use mathlib.Core.List.{List}
 use Prim.Native.Nat.{ℕ, zero, suc, ◌+◌, ◌*◌, ◌-◌, ◌≤◌, ◌<◌}
 use native.Mathlib.Omega.{arith}
@@ -13,7 +12,7 @@ use lib.ListN.{length, get_or, replicate, length-replicate, get_or-replicate}
 use borrow.Author.Tests.{eq-eqb, ne_eqb, eqb-true, not-true}
 use Rattle.trace.specs.declared.refusal.Refusal.{Refusal}
 use Rattle.std.proofs.Common.{Result, Ok, Err, IfOk}
-use Rattle.trace.specs.Refusal.{unless, lowest}
+use Rattle.trace.specs.Refusal.{lowest}
 use Rattle.table.specs.Answer.{checked}
 use Rattle.table.specs.Node.{count, kind_at, left_at, right_at}
 use Rattle.table.specs.Rules.{Use, unused, signal, operand, shape_of}
@@ -145,23 +144,10 @@ module _ (t : List ℕ) (i : ℕ) (u : Use × Use) (l r : ℕ) (eu : u ≡ shape
 
 -- ── The refusals after the nodes ──
 
--- Where a node is not an operand once, there is a lowest one, which decides.
-uses_lowest : (t : List ℕ) (n : ℕ) → (lowest (use_refusal t) n ≡ none) ⊎ (lowest (use_refusal t) n ≡ some PslUse)
-unfolding lowest use_refusal
-uses_lowest t zero = inl refl
-uses_lowest t (suc n) =
-    elim (uses_lowest t n) [
-      | inl e ↦ rw e (elim (eqb (uses t n) 1) as (λ (b : Bool). (unless b PslUse none ≡ none) ⊎ (unless b PslUse none ≡ some PslUse)) [ true ↦ inl refl | false ↦ inr refl ])
-      | inr e ↦ rw e (inr refl)
-    ]
-
-pub uses-refused : (t : List ℕ) (j : ℕ) → j < count t - 1 → use_refusal t j ≡ some PslUse → tree_refusal t ≡ some PslUse
+-- The lowest node that is not an operand once decides.
+pub uses-refused : (t : List ℕ) (j : ℕ) → j < count t - 1 → lowest (use_refusal t) j ≡ none → use_refusal t j ≡ some (PslUse j) → tree_refusal t ≡ some (PslUse j)
 unfolding tree_refusal
-uses-refused t j h d =
-    elim (uses_lowest t (count t - 1)) [
-      | inl e ↦ absurd (let z = none_below (use_refusal t) (count t - 1) j h e in cc)
-      | inr e ↦ rw e
-    ]
+uses-refused t j h e d = rw (lowest-some (use_refusal t) j (count t - 1) (PslUse j) h e d)
 
 -- Node j by its count.
 module _ {t c : List ℕ} (T : Tallied t (count t) c) (j : ℕ) (h : j < count t) where
@@ -172,12 +158,12 @@ module _ {t c : List ℕ} (T : Tallied t (count t) c) (j : ℕ) (h : j < count t
   unfolding use_refusal
   used_once e = rw (eq-eqb (uses t j) 1 (sym (T.counts j in_counts) ∙ e))
 
-  pub misused : (get_or c j 0 ≡ 1 → ⊥) → use_refusal t j ≡ some PslUse
+  pub misused : (get_or c j 0 ≡ 1 → ⊥) → use_refusal t j ≡ some (PslUse j)
   unfolding use_refusal
   misused e = rw (ne_eqb (uses t j) 1 (λ d. e (T.counts j in_counts ∙ d)))
 
 module _ (t : List ℕ) (once : lowest (use_refusal t) (count t - 1) ≡ none) where
-  pub root-refused : is_boolean psl_rules t (count t - 1) ≡ true → tree_refusal t ≡ some PslRoot
+  pub root-refused : is_boolean psl_rules t (count t - 1) ≡ true → tree_refusal t ≡ some (PslRoot (count t - 1))
   unfolding tree_refusal root_refusal
   root-refused b = rw (once, b)
 

@@ -8,3 +8,4 @@ pub mod TreeLaw
 pub mod ClosingLaw
 pub mod ClosingCheckLaw
 pub mod ClaimsLaw
+pub mod PlacedLaw

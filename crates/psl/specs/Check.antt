@@ -58,13 +58,13 @@ names_at t j i =
 abbrev pub uses : List ℕ → ℕ → ℕ
 uses t j = total (names_at t j) (count t)
 
--- 7: a node that is not an operand exactly once.
+-- 7: node j, where it is not an operand exactly once.
 unfoldable pub use_refusal : List ℕ → ℕ → Option Refusal
-use_refusal t j = unless (eqb (uses t j) 1) PslUse none
+use_refusal t j = unless (eqb (uses t j) 1) (PslUse j) none
 
--- 8: the last node is a Boolean.
+-- 8: the last node, where it is a Boolean.
 unfoldable pub root_refusal : List ℕ → Option Refusal
-root_refusal t = unless (not (is_boolean psl_rules t (count t - 1))) PslRoot none
+root_refusal t = unless (not (is_boolean psl_rules t (count t - 1))) (PslRoot (count t - 1)) none
 
 -- After every node has passed: 7 for the lowest node but the last, then 8.
 unfoldable pub tree_refusal : List ℕ → Option Refusal

@@ -1,6 +1,6 @@
 -- The kinds of a PSL node, and their numbers.
 use Rattle.std.specs.Prelude.{ℕ, Result}
-use Rattle.trace.specs.declared.refusal.Refusal.{Refusal}
+use Rattle.table.specs.declared.kind.NoKind.{NoKind}
 use Rattle.psl.specs.declared.kind.Kind.{Kind}
 use Rattle.psl.specs.declared.kind.Kind.TheVariants.{True, Var, Bnot, Band, Weak, Strong, Not, And, Next, Until, Abort}
 use Rattle.table.specs.Kind.{KindIs as IsKind}
@@ -19,6 +19,6 @@ number Next = 8
 number Until = 9
 number Abort = 10
 
--- The kind that a number stands for, or the refusal of a number that is no kind.
-abbrev pub KindIs : ℕ → Result Kind Refusal → Type 0
+-- The kind that a number stands for, or that it is no kind.
+abbrev pub KindIs : ℕ → Result Kind NoKind → Type 0
 KindIs n r = IsKind psl_rules number n r

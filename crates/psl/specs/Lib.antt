@@ -5,6 +5,7 @@ pub mod Check
 pub mod Passes
 pub mod Kind
 pub mod Answer
+pub mod Carries
 pub mod Accepted
 pub mod Nodes
 pub mod Claims

@@ -3,7 +3,7 @@ ghost use Rattle.std.specs.Prelude.{◌≡◌};
 ghost use Rattle.psl.specs.Kind.{number, KindIs};
 
 use crate::BOOLEANS;
-use table::{Place, Refusals};
+use table::{NoKind, NodeNo, Place, Refusals};
 use trace::Refusal;
 
 // Each has the number that stands for it in a table.
@@ -31,11 +31,11 @@ impl From<Kind> for u16 {
 }
 
 impl TryFrom<u16> for Kind {
-    type Error = Refusal;
+    type Error = NoKind;
 
     ghost try_from_gives = { KindIs };
 
-    fn try_from(n: u16) -> Result<Kind, Refusal> {
+    fn try_from(n: u16) -> Result<Kind, NoKind> {
         Ok(match n {
             0 => Kind::True,
             1 => Kind::Var,
@@ -48,7 +48,7 @@ impl TryFrom<u16> for Kind {
             8 => Kind::Next,
             9 => Kind::Until,
             10 => Kind::Abort,
-            _ => return Err(Refusal::PslKind),
+            _ => return Err(NoKind),
         })
     }
 }
@@ -75,7 +75,7 @@ impl table::Kind for Kind {
 
     ghost rules = { psl_rules };
 
-    fn from_number(n: u16) -> Result<Kind, Refusal> {
+    fn from_number(n: u16) -> Result<Kind, NoKind> {
         Kind::try_from(n)
     }
 
@@ -87,12 +87,14 @@ impl table::Kind for Kind {
         n < BOOLEANS
     }
 
-    fn refusals() -> Refusals {
+    fn refusals(i: NodeNo) -> Refusals {
+        let node = i.0;
         Refusals {
-            unused: Refusal::PslUnused,
-            signal: Refusal::PslSignal,
-            operand: Refusal::PslOperand,
-            sort: Some(Refusal::PslSort),
+            kind: Refusal::PslKind { node },
+            unused: Refusal::PslUnused { node },
+            signal: Refusal::PslSignal { node },
+            operand: Refusal::PslOperand { node },
+            sort: Some(Refusal::PslSort { node }),
         }
     }
 }

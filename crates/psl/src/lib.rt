@@ -90,11 +90,13 @@ fn check_uses(t: &[u16], c: &[u16]) -> Result<(), Refusal>
     ensures { result ≡ checked (tree_refusal t.now) }
 {
     let last = t.len() / 3 - 1;
-    if !c[..last].iter().all(|uses| *uses == 1) {
-        return Err(Refusal::PslUse);
+    if let Some(j) = c[..last].iter().position(|uses| *uses != 1) {
+        let node = NodeNo::from_index(j).0;
+        return Err(Refusal::PslUse { node });
     }
     if t[3 * last] < BOOLEANS {
-        return Err(Refusal::PslRoot);
+        let node = NodeNo::from_index(last).0;
+        return Err(Refusal::PslRoot { node });
     }
     Ok(())
 }

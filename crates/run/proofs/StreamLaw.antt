@@ -44,7 +44,7 @@ module _ (s m r : Run) (g : Gathered most_gathered s) (more : goes_on s ≡ true
             tells = λ read done a. first_ends read done s r counted line a e h';
           }
       go (Later t) e (h, same) =
-          let (text, all) = put_fits s.out.items (later_text (s.number - 1) h.answer) gathering_room most_later h.writes (later-short (s.number - 1) h.answer (omega (arith, few))) (omega (arith, g.few)) in
+          let (text, all) = put_fits s.out.items (later_text (s.number - 1) h.answer) gathering_room most_later h.writes (later-short (s.number - 1) h.answer h.within (omega (arith, few))) (omega (arith, g.few)) in
           record {
             number = counted;
             short = λ k l. omega (arith, ap length out, all);

@@ -5,7 +5,7 @@ use Rattle.logic.specs.Written.{Written, spelled_out}
 use Rattle.psl_verdict.specs.Verdict.{PslJudges}
 use Rattle.ltl_verdict.specs.Verdict.{LtlJudges}
 use Rattle.answers.specs.Answer.{LaterAnswer, later_text}
-use Rattle.answers.specs.Inner.{TablesOf}
+use Rattle.answers.specs.Inner.{TablesOf, PlacedWithin}
 use Rattle.answers.specs.declared.Verdicts.{Verdicts}
 use Rattle.line_one.specs.declared.Tables.{Tables}
 use Rattle.run.specs.Bounds.{gathering_room}
@@ -18,4 +18,5 @@ BothJudged psl ltl lead cycle v = PslJudges psl lead cycle v.psl × LtlJudges lt
 pub record LaterDone (line : List ℕ) (t : Tables) (number : ℕ) (out out' : List ℕ) : Type 0 where
   pub answer : Result Verdicts Refusal
   pub answers : (f : Written) → TablesOf f t.psl.items t.ltl.items → LaterAnswer (spelled_out f) line answer
+  pub within : PlacedWithin answer
   pub writes : out' ≡ take gathering_room (out ++ later_text (number - 1) answer)

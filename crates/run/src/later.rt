@@ -2,7 +2,7 @@
 ghost use Rattle.std.specs.Prelude.{◌≡◌, ◌++◌, ◌+◌, ◌-◌, ◌≤◌, length};
 ghost use Rattle.logic.specs.Written.{Written, spelled_out};
 ghost use Rattle.answers.specs.Answer.{LaterAnswer};
-ghost use Rattle.answers.specs.Inner.{TablesOf};
+ghost use Rattle.answers.specs.Inner.{TablesOf, PlacedWithin};
 ghost use Rattle.run.specs.Later.{BothJudged, LaterDone};
 
 use crate::OUT_ROOM;
@@ -24,7 +24,8 @@ fn judge_both(tables: &Tables, trace: TraceView<'_>) -> Verdicts
 
 // Both verdicts on a line's trace, or its refusal. The reader is lent lists, as C lends it some, and tells how much of them is in use.
 fn later_line(line: &[u8], tables: &Tables) -> Result<Verdicts, Refusal>
-    ensures { (f : Written) → TablesOf f tables.now.psl.items tables.now.ltl.items → LaterAnswer (spelled_out f) line.now result }
+    ensures answers { (f : Written) → TablesOf f tables.now.psl.items tables.now.ltl.items → LaterAnswer (spelled_out f) line.now result }
+    ensures within { PlacedWithin result }
 {
     let mut lead: [Letter; MOST_LETTERS] = [0; MOST_LETTERS];
     let mut cycle: [Letter; MOST_LETTERS] = [0; MOST_LETTERS];

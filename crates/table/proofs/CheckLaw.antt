@@ -105,13 +105,13 @@ fits-same {R} {u} {n} {i} {b} {c} f e = record { low = f.low; sort = go R.sorts 
 
 -- ── A node ──
 
-sorts-none : (S : Option Sorts) (h : Use × Use) (lb rb : Bool) → sorts_fit S h.0 lb ≡ true → sorts_fit S h.1 rb ≡ true → sort_refusal S h lb rb ≡ none
-sorts-none none h lb rb e d = refl
-sorts-none (some s) h lb rb e d = rw (e, d)
+sorts-none : (S : Option Sorts) (h : Use × Use) (i : ℕ) (lb rb : Bool) → sorts_fit S h.0 lb ≡ true → sorts_fit S h.1 rb ≡ true → sort_refusal S h i lb rb ≡ none
+sorts-none none h i lb rb e d = refl
+sorts-none (some s) h i lb rb e d = rw (e, d)
 
-sorts_fit_lem : (S : Option Sorts) (h : Use × Use) (lb rb : Bool) → sort_refusal S h lb rb ≡ none → (sorts_fit S h.0 lb ≡ true) × (sorts_fit S h.1 rb ≡ true)
-sorts_fit_lem none h lb rb e = (refl, refl)
-sorts_fit_lem (some s) h lb rb e =
+sorts_fit_lem : (S : Option Sorts) (h : Use × Use) (i : ℕ) (lb rb : Bool) → sort_refusal S h i lb rb ≡ none → (sorts_fit S h.0 lb ≡ true) × (sorts_fit S h.1 rb ≡ true)
+sorts_fit_lem none h i lb rb e = (refl, refl)
+sorts_fit_lem (some s) h i lb rb e =
     and_parts (sort_fits h.0 lb) (sort_fits h.1 rb) (unless-none (sort_fits h.0 lb && sort_fits h.1 rb) _ none e).0
 
 module _ (R : Rules) (h : Use × Use) (i l r : ℕ) (lb rb : Bool) where
@@ -125,7 +125,7 @@ module _ (R : Rules) (h : Use × Use) (i l r : ℕ) (lb rb : Bool) where
         signal-fits h.1 r i g.low,
         operand-fits h.0 l i f.low,
         operand-fits h.1 r i g.low,
-      ) (sorts-none R.sorts h lb rb f.sort g.sort)
+      ) (sorts-none R.sorts h i lb rb f.sort g.sort)
 
   pub places_fit : places_refusal R h i l r lb rb ≡ none → Fits R h.0 l i lb × Fits R h.1 r i rb
   unfolding places_refusal
@@ -138,7 +138,7 @@ module _ (R : Rules) (h : Use × Use) (i l r : ℕ) (lb rb : Bool) where
       let u = and_parts (unused_fits p l) (unused_fits q r) a.0 in
       let s = and_parts (signal_fits p l) (signal_fits q r) b.0 in
       let o = and_parts (operand_fits p l i) (operand_fits q r i) c.0 in
-      let t = sorts_fit_lem R.sorts h lb rb c.1 in (
+      let t = sorts_fit_lem R.sorts h i lb rb c.1 in (
         record { low = low_fits_lem p l i u.0 s.0 o.0; sort = t.0 },
         record { low = low_fits_lem q r i u.1 s.1 o.1; sort = t.1 },
       )

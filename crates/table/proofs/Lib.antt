@@ -6,3 +6,4 @@ pub mod KindLaw
 pub mod ValueLaw
 pub mod StoreLaw
 pub mod FirstLaw
+pub mod NamedLaw

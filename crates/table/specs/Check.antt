@@ -40,25 +40,25 @@ sort_fits (operand b) s = beq s b
 abbrev pub length_fits : ℕ → ℕ → Bool
 length_fits most n = (eqb (n % 3) 0 && ltb 0 (n / 3)) && leb (n / 3) most
 
--- The sorts of a node's operands, Booleans if lb and rb.
-abbrev pub sort_refusal : Option Sorts → Use × Use → Bool → Bool → Option Refusal
-sort_refusal none h lb rb = none
-sort_refusal (some s) h lb rb = unless (sort_fits h.0 lb && sort_fits h.1 rb) s.refusal none
+-- The sorts of the operands of node i, Booleans if lb and rb.
+abbrev pub sort_refusal : Option Sorts → Use × Use → ℕ → Bool → Bool → Option Refusal
+sort_refusal none h i lb rb = none
+sort_refusal (some s) h i lb rb = unless (sort_fits h.0 lb && sort_fits h.1 rb) (s.refusal i) none
 
 -- The places of node i: left and right by one test, then both by the next.
 unfoldable pub places_refusal : Rules → Use × Use → ℕ → ℕ → ℕ → Bool → Bool → Option Refusal
 places_refusal R h i l r lb rb =
     let p = h.0 in
     let q = h.1 in
-    unless (unused_fits p l && unused_fits q r) R.refusals.unused
-    (unless (signal_fits p l && signal_fits q r) R.refusals.signal
-    (unless (operand_fits p l i && operand_fits q r i) R.refusals.operand
-    (sort_refusal R.sorts h lb rb)))
+    unless (unused_fits p l && unused_fits q r) (R.refusals.unused i)
+    (unless (signal_fits p l && signal_fits q r) (R.refusals.signal i)
+    (unless (operand_fits p l i && operand_fits q r i) (R.refusals.operand i)
+    (sort_refusal R.sorts h i lb rb)))
 
 -- Node i: its kind, then its places.
 unfoldable pub node_refusal : Rules → ℕ → Node → Bool → Bool → Option Refusal
 node_refusal R i (node k l r) lb rb =
-    unless (known R k) R.refusals.kind (places_refusal R (shape_of R k) i l r lb rb)
+    unless (known R k) (R.refusals.kind i) (places_refusal R (shape_of R k) i l r lb rb)
 
 -- Node i is a Boolean.
 abbrev pub is_boolean : Rules → List ℕ → ℕ → Bool

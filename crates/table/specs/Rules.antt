@@ -19,18 +19,18 @@ is_operand unused = false
 is_operand signal = false
 is_operand (operand b) = true
 
--- The refusals, each by what is wrong.
+-- The refusals, each by what is wrong: of the length, or of node i.
 pub record Refusals : Type 0 where
   pub length : Refusal
-  pub kind : Refusal
-  pub unused : Refusal
-  pub signal : Refusal
-  pub operand : Refusal
+  pub kind : ℕ → Refusal
+  pub unused : ℕ → Refusal
+  pub signal : ℕ → Refusal
+  pub operand : ℕ → Refusal
 
--- Where there are two sorts of nodes: how many kinds, the first, are Booleans, and the refusal of an operand that is of the wrong sort.
+-- Where there are two sorts of nodes: how many kinds, the first, are Booleans, and the refusal of node i that has an operand of the wrong sort.
 pub record Sorts : Type 0 where
   pub booleans : ℕ
-  pub refusal : Refusal
+  pub refusal : ℕ → Refusal
 
 -- What stands left and right, kind by kind; the most nodes; the refusals; the sorts, if there are two.
 pub record Rules : Type 0 where

@@ -5,15 +5,23 @@ ghost use Rattle.trace.specs.declared.refusal.Refusal.{Refusal as TheRefusal};
 ghost use Rattle.table.specs.Answer.{checked};
 ghost use Rattle.table.specs.Rules.{Rules, shape_of, boolean_kind};
 ghost use Rattle.table.specs.Check.{table_refusal};
-ghost use Rattle.table.specs.Kind.{KindIs, place_refusals};
+ghost use Rattle.table.specs.Kind.{KindIs, refusals_of};
 ghost use Rattle.table.specs.Inner.Place.{uses_of};
 
+use crate::NodeNo;
 use crate::place::Place;
+use thiserror::Error;
 use trace::Refusal;
 
-// The refusals of what stands in a node's places. Where there are no sorts, there is none of a sort.
+// A number that is no kind of node.
+#[derive(Clone, Copy, Debug, PartialEq, Eq, Error)]
+#[error("no kind of node has this number")]
+pub struct NoKind;
+
+// The refusals of a node, by what is wrong with it. Where there are no sorts, there is none of a sort.
 #[derive(Clone, Copy)]
 pub struct Refusals {
+    pub kind: Refusal,
     pub unused: Refusal,
     pub signal: Refusal,
     pub operand: Refusal,
@@ -27,7 +35,7 @@ pub trait Kind: Copy {
     ghost rules: { Rules };
 
     // Not `TryFrom` above this trait: each type has a second one, by `Into`, and a bound may have one alone.
-    fn from_number(n: u16) -> Result<Self, Refusal>
+    fn from_number(n: u16) -> Result<Self, NoKind>
         ensures { KindIs rules number n result };
 
     // What stands left, and what stands right.
@@ -38,8 +46,9 @@ pub trait Kind: Copy {
     fn is_boolean(n: u16) -> bool
         ensures { result ≡ boolean_kind rules.sorts n };
 
-    fn refusals() -> Refusals
-        ensures { result ≡ place_refusals rules };
+    // By what node i is refused.
+    fn refusals(i: NodeNo) -> Refusals
+        ensures { result ≡ refusals_of rules i.0 };
 }
 
 // A kind of node whose tables have a check.

@@ -14,7 +14,7 @@ ghost use Rattle.table.specs.Check.{length_fits, sort_refusal, places_refusal, n
 ghost use Rattle.table.specs.Inner.Place.{uses_of, node_low};
 
 pub use accepted::Table;
-pub use kind::{Checked, Kind, Refusals};
+pub use kind::{Checked, Kind, NoKind, Refusals};
 pub use place::{Place, places_low};
 use trace::Refusal;
 
@@ -104,11 +104,15 @@ fn passed(test: bool, x: Refusal) -> Result<(), Refusal>
     if test { Ok(()) } else { Err(x) }
 }
 
-// The sorts of a node's operands, if there are two.
-fn check_sorts<K: Kind>(places: (Place, Place), booleans: (bool, bool)) -> Result<(), Refusal>
-    ensures { result ≡ checked (sort_refusal K.rules.sorts (uses_of places) booleans.0 booleans.1) }
+// The sorts of the operands of node i, if there are two.
+fn check_sorts<K: Kind>(
+    places: (Place, Place),
+    i: NodeNo,
+    booleans: (bool, bool),
+) -> Result<(), Refusal>
+    ensures { result ≡ checked (sort_refusal K.rules.sorts (uses_of places) i.0 booleans.0 booleans.1) }
 {
-    match K::refusals().sort {
+    match K::refusals(i).sort {
         None => Ok(()),
         Some(e) => passed(
             places.0.sort_fits(booleans.0) & places.1.sort_fits(booleans.1),
@@ -127,22 +131,24 @@ fn check_places<K: Kind>(
     ensures { result ≡ checked (places_refusal K.rules (uses_of places) i.0 n.left n.right booleans.0 booleans.1) }
 {
     let (p, q) = places;
-    let x = K::refusals();
+    let x = K::refusals(i);
     passed(p.unused_fits(n.left) & q.unused_fits(n.right), x.unused)?;
     passed(p.signal_fits(n.left) & q.signal_fits(n.right), x.signal)?;
     passed(
         p.operand_fits(n.left, i) & q.operand_fits(n.right, i),
         x.operand,
     )?;
-    check_sorts::<K>(places, booleans)
+    check_sorts::<K>(places, i, booleans)
 }
 
 // Node i. `booleans` tells which of its operands are Booleans.
 pub fn check_node<K: Kind>(i: NodeNo, n: Node<u16>, booleans: (bool, bool)) -> Result<(), Refusal>
     ensures { result ≡ checked (node_refusal K.rules i.0 (node n.kind n.left n.right) booleans.0 booleans.1) }
 {
-    let kind = K::from_number(n.kind)?;
-    check_places::<K>(kind.places(), i, n, booleans)
+    match K::from_number(n.kind) {
+        Ok(kind) => check_places::<K>(kind.places(), i, n, booleans),
+        Err(_) => Err(K::refusals(i).kind),
+    }
 }
 
 // All tests of node i but those of sorts, in one.

@@ -1,16 +1,19 @@
 -- Laws of readings, for any way of spelling: where a reader stops is where the line breaks, and a line has one reading.
 use mathlib.Core.Path.{◌≡◌, refl, ap, sym, subst, ◌∙◌}
 use mathlib.Core.Option.{Option, some}
-use mathlib.Core.List.{List, ◌++◌}
+use mathlib.Core.List.{List, [], ◌++◌, append_assoc, append-nil}
 use Prim.Native.Nat.{ℕ, suc, ◌+◌, ◌≤◌, ◌<◌}
 use native.Mathlib.Decide.{dec_lt}
 use native.Mathlib.Omega.{arith}
-use lib.ListN.{length, take, drop, length-append, length-drop, length-take}
+use lib.ListN.{length, take, drop, take-append-drop, length-append, length-drop, length-take}
 use lib.Seq.{sets, sets-eq, take_at, take-take, take_all}
 use Rattle.trace.specs.declared.refusal.Refusal.{Refusal}
-use mathlib.Core.Option.{some-ne-none}
+use Rattle.trace.specs.declared.refusal.Refusal.TheVariants.{Shape}
+use mathlib.Core.Option.{some-ne-none, some-injective}
+use Rattle.std.specs.Prelude.{Option as Maybe, None, Some}
+use Rattle.trace.specs.Refusal.{place}
 use Rattle.text.specs.Limits.{most_bytes, front}
-use Rattle.text.specs.Reading.{Breaks, Reading, long, breaks, spells, line_refusal, Takes, Refuses}
+use Rattle.text.specs.Reading.{Begun, Breaks, off, cut, Reading, long, breaks, spells, line_refusal, Takes, Refuses}
 use Rattle.text.specs.Inner.Places.{Language, StopsLine}
 
 -- ── Where a line breaks ──
@@ -22,22 +25,42 @@ breaks-at {X} {spelled} {L} {s} {p} inc dec a =
     let (q, r, e, l) = a.begun in
     let (x, d) = inc (q ++ r) l in
     let n : length q ≡ p = omega (arith, ap length e, length-append q (drop p s), length-drop p s, a.within) in
-    record {
-      within = a.within;
-      begun = (x, ap (take p) (sym d) ∙ take_at q r p n ∙ sym (ap (take p) e ∙ take_at q (drop p s) p n));
-      ends = λ y f. a.none (spelled y) (record { is = sym f }) (dec y);
-    }
+    let front : take p s ≡ q = ap (take p) e ∙ take_at q (drop p s) p n in
+    elim (dec_lt p (length s)) [
+      | yes h ↦
+          off
+          record {
+            inside = h;
+            before = (x, r, sym d ∙ ap (λ (w : List ℕ). w ++ r) (sym front));
+            after = λ (y, t, f). a.none (spelled y) (record { is = sym (ap (take (suc p)) f ∙ take_at (take (suc p) s) t (suc p) (omega (arith, length-take (suc p) s))) }) (dec y);
+          }
+      | no h ↦
+          let whole : take p s ≡ s = take_all p s (omega arith) in
+          cut
+          record {
+            place = omega (arith, a.within);
+            begun = (x, r, sym d ∙ ap (λ (w : List ℕ). w ++ r) (sym front ∙ whole));
+            unfinished = λ y f. a.none s (record { is = refl }) (subst L (sym f) (dec y));
+          }
+    ]
 
 -- ── One reading ──
 
 module _ {X : Type 0} (spelled : X → List ℕ) where
-  broken_spells : {s : List ℕ} {p : ℕ} → Breaks spelled s p → (x : X) → s ≡ spelled x → ⊥
-  broken_spells {s} {p} b x e = b.ends x (ap (take (suc p)) (sym e))
+  -- A line that begins with w begins with less of it.
+  begins_less : (w : List ℕ) (n : ℕ) → Begun spelled w → Begun spelled (take n w)
+  begins_less w n (x, t, e) = (x, drop n w ++ t, e ∙ ap (λ (v : List ℕ). v ++ t) (sym (take-append-drop n w)) ∙ append_assoc (take n w) (drop n w) t)
 
+  broken_spells : {s : List ℕ} {p : ℕ} → Breaks spelled s p → (x : X) → s ≡ spelled x → ⊥
+  broken_spells {s} {p} (off b) x e = b.after (begins_less s (suc p) (x, [], sym e ∙ sym (append-nil s)))
+  broken_spells (cut b) x e = b.unfinished x e
+
+  -- Where it breaks off, no line begins with more of it.
   broken_before : {s : List ℕ} {p q : ℕ} → Breaks spelled s p → Breaks spelled s q → p < q → ⊥
-  broken_before {s} {p} {q} b c h =
-      let (x, e) = c.begun in
-      b.ends x (sym (take-take (suc p) q (spelled x) h) ∙ ap (take (suc p)) e ∙ take-take (suc p) q s h)
+  broken_before {s} {p} {q} (off b) (off c) h = b.after (subst (Begun spelled) (take-take (suc p) q s h) (begins_less (take q s) (suc p) c.before))
+  broken_before {s} {p} {q} (off b) (cut c) h = b.after (begins_less s (suc p) c.begun)
+  broken_before {s} {p} {q} (cut b) (off c) h = absurd (omega (arith, b.place, c.inside))
+  broken_before {s} {p} {q} (cut b) (cut c) h = absurd (omega (arith, b.place, c.place))
 
   pub broken_alone : {s : List ℕ} {p q : ℕ} → Breaks spelled s p → Breaks spelled s q → p ≡ q
   broken_alone {s} {p} {q} b c = elim (dec_lt p q) [ yes h ↦ absurd (broken_before b c h) | no h ↦ elim (dec_lt q p) [ yes i ↦ absurd (broken_before c b i) | no i ↦ omega arith ] ]
@@ -49,7 +72,7 @@ module _ {X : Type 0} (spelled : X → List ℕ) where
     reading_alone (long h) (breaks i p b) = absurd (omega arith)
     reading_alone (long h) (spells i x e) = absurd (omega arith)
     reading_alone (breaks h p b) (long i) = absurd (omega arith)
-    reading_alone (breaks h p b) (breaks i q c) = refl
+    reading_alone (breaks h p b) (breaks i q c) = ap (λ (r : ℕ). some (Shape r)) (broken_alone b c)
     reading_alone (breaks h p b) (spells i x e) = absurd (broken_spells b x e)
     reading_alone (spells h x e) (long i) = absurd (omega arith)
     reading_alone (spells h x e) (breaks i p b) = absurd (broken_spells b x e)
@@ -64,6 +87,30 @@ module _ {X : Type 0} (spelled : X → List ℕ) where
 
       pub refused_alone : {d e : Refusal} → Refuses spelled limits s d → Refuses spelled limits s e → d ≡ e
       refused_alone a b = let q = sym a.reason ∙ reading_alone a.reading b.reading ∙ b.reason in cc
+
+-- ── The place that a refusal carries ──
+
+pub breaks_within : {X : Type 0} {spelled : X → List ℕ} {s : List ℕ} {p : ℕ} → Breaks spelled s p → p ≤ length s
+breaks_within (off b) = omega (arith, b.inside)
+breaks_within (cut b) = omega (arith, b.place)
+
+-- Where the limits carry none, it is where the line breaks.
+pub refused_place : {X : Type 0} {spelled : X → List ℕ} {limits : X → Option Refusal} → ((x : X) (r : Refusal) → limits x ≡ some r → place r ≡ None) → {s : List ℕ} {e : Refusal}
+    → Refuses spelled limits s e → (p : ℕ) → place e ≡ Some p → (length s ≤ most_bytes) × (e ≡ Shape p) × Breaks spelled s p
+refused_place {X} {spelled} {limits} none-placed {s} {e} a p h = go a.reading a.reason
+  where
+    go : (R : Reading spelled s) → line_refusal limits R ≡ some e → (length s ≤ most_bytes) × (e ≡ Shape p) × Breaks spelled s p
+    go (long i) d = let z : ◌≡◌ {A = Maybe ℕ} None (Some p) = ap place (some-injective _ _ d) ∙ h in cc
+    go (breaks i q b) d =
+        let f : Shape q ≡ e = some-injective _ _ d in
+        let z : ◌≡◌ {A = Maybe ℕ} (Some q) (Some p) = ap place f ∙ h in
+        let y : q ≡ p = cc in
+        (i, sym f ∙ ap (λ (n : ℕ). Shape n) y, subst (Breaks spelled s) y b)
+    go (spells i x g) d = let z : ◌≡◌ {A = Maybe ℕ} None (Some p) = sym (none-placed x e d) ∙ h in cc
+
+pub place_within : {X : Type 0} {spelled : X → List ℕ} {limits : X → Option Refusal} → ((x : X) (r : Refusal) → limits x ≡ some r → place r ≡ None) → {s : List ℕ} {e : Refusal}
+    → Refuses spelled limits s e → (p : ℕ) → place e ≡ Some p → p ≤ most_bytes
+place_within none-placed a p h = let (short, _, b) = refused_place none-placed a p h in omega (arith, breaks_within b)
 
 -- ── Other limits, and a line that is cut ──
 

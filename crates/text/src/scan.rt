@@ -14,10 +14,10 @@ pub struct Fault(pub usize);
 
 // A line with a fault has not the shape of its kind.
 impl From<Fault> for Refusal {
-    ghost from_gives = { λ _ e. e ≡ Shape };
+    ghost from_gives = { λ f e. e ≡ Shape f.0 };
 
-    fn from(_fault: Fault) -> Refusal {
-        Refusal::Shape
+    fn from(Fault(at): Fault) -> Refusal {
+        Refusal::Shape { at }
     }
 }
 

@@ -12,7 +12,7 @@ use lib.Seq.{get_or-drop}
 use Rattle.logic.specs.Trace.{letter_at, size}
 use Rattle.trace.specs.Answer.{rest_of}
 use Rattle.trace.specs.Claims.{Claims}
-use Rattle.trace.proofs.NumberLaw.{one_number}
+use Rattle.trace.proofs.ToldLaw.{one_refusal}
 use Rattle.logic.proofs.MomentsLaw.{letter_lead, letter_loop}
 
 rest-lead : (lead loop : List ℕ) (m : ℕ) → m < length lead → rest_of lead loop m ≡ drop m lead
@@ -48,5 +48,5 @@ claims =
       one_rest = λ lead loop m r r' e e'. (e.start ∙ sym e'.start, e.content ∙ sym e'.content);
       rest_begins = rest_begins;
       rest_past = rest_past;
-      one_number = one_number;
+      one_refusal = one_refusal;
     }

@@ -1,3 +1,4 @@
 pub mod JudgesLaw
 pub mod ClaimsLaw
-pub mod NumberLaw
+pub mod ToldLaw
+pub mod ReasonLaw

@@ -3,7 +3,7 @@ use Rattle.std.specs.Prelude.{◌≡◌, List, [], ℕ, ◌≤◌, ◌<◌, get_
 use Rattle.std.proofs.Math.Option.{some}
 use Rattle.std.specs.Borrow.{Bor}
 use Rattle.logic.specs.Trace.{letter_at, size}
-use Rattle.trace.specs.Refusal.{number}
+use Rattle.trace.specs.Refusal.{told}
 use Rattle.trace.specs.Answer.{LetterIs, rest_of, RestIs}
 use Rattle.trace.specs.declared.refusal.Refusal.{Refusal}
 
@@ -17,5 +17,5 @@ pub record Claims : Type 0 where
   pub rest_begins : (lead loop : List ℕ) (m : ℕ) → m < size lead loop → letter_at lead loop m ≡ some (get_or (rest_of lead loop m) 0 0)
   -- Past both lists nothing is left.
   pub rest_past : (lead loop : List ℕ) (m : ℕ) → size lead loop ≤ m → rest_of lead loop m ≡ []
-  -- No two refusals have one number.
-  pub one_number : (x y : Refusal) → number x ≡ number y → x ≡ y
+  -- No two refusals have one number and one place.
+  pub one_refusal : (x y : Refusal) → told x ≡ told y → x ≡ y

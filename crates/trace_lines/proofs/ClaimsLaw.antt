@@ -4,7 +4,7 @@ use mathlib.Core.List.{List}
 use Prim.Native.Nat.{ℕ}
 use lib.ListN.{length}
 use Rattle.text.specs.Limits.{front}
-use Rattle.text.proofs.ReadingLaw.{taken_alone, not_both, refused_alone}
+use Rattle.text.proofs.ReadingLaw.{taken_alone, not_both, refused_alone, refused_place}
 use Rattle.trace_lines.specs.Claims.{Claims}
 use Rattle.trace_lines.specs.Spelling.{TraceLists, line_of_trace}
 use Rattle.trace_lines.specs.TraceAnswer.{trace_refusal, TraceAnswer}
@@ -12,6 +12,7 @@ use Rattle.trace.specs.declared.refusal.Refusal.{Refusal}
 use Rattle.std.specs.Prelude.{Result, Ok, Err}
 use Rattle.trace_lines.specs.declared.Lengths.{Lengths}
 use Rattle.trace_lines.proofs.TraceLaw.{trace_alone}
+use Rattle.trace_lines.proofs.LimitsLaw.{refusal-unplaced}
 
 abbrev lengths : ℕ → ℕ → Lengths
 lengths a b = record { lead = a; cycle = b }
@@ -30,4 +31,4 @@ trace_answer s k l (Err e) (Err e') m m' n n' (x, p, q) (y, p', q') =
     (ap (λ (z : Refusal). Err z) (refused_alone line_of_trace trace_alone (trace_refusal (length k) (length l)) x y), p ∙ sym p', q ∙ sym q')
 
 pub claims : Claims
-claims = record { one_trace = trace_alone; trace_answer = trace_answer }
+claims = record { one_trace = trace_alone; placed = λ s k l m n e p a h. let (_, q, b) = refused_place (λ t. refusal-unplaced t (length k) (length l)) a.0 p h in (q, b); trace_answer = trace_answer }

@@ -209,7 +209,7 @@ trace_alone t u e =
 pub too_long : (s l m : List ℕ) → most_bytes < length s → TraceAnswer s l m (Err LongLine) l m
 too_long s l m h = (record { reading = long h; reason = refl }, refl, refl)
 
-pub no-trace : (s l m : List ℕ) {p : ℕ} → length s ≤ most_bytes → StopsLine (Both whole_line) s 0 p → TraceAnswer s l m (Err Shape) l m
+pub no-trace : (s l m : List ℕ) {p : ℕ} → length s ≤ most_bytes → StopsLine (Both whole_line) s 0 p → TraceAnswer s l m (Err (Shape p)) l m
 no-trace s l m {p} h a =
     (record { reading = breaks h p (breaks-at (λ w (lead, loop, e). (trace lead loop, e)) (λ t. (t.lead, t.loop, refl)) a); reason = refl }, refl, refl)
 

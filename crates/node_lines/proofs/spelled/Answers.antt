@@ -13,4 +13,4 @@ returns-in-Ok c = let k = c.in-Ok.ensures.0 in
     }
 
 pub returns-in-Err : goal.returns-in-Err
-returns-in-Err c = no_kind c.args.kind c.in-Err.ensures.0
+returns-in-Err c = no_kind c.args.kind c.in-Err.ensures

@@ -21,7 +21,7 @@ unknown : (d : In_default) → refusal_at psl_rules d.args.t.now d.loop-i.i ≡ 
 unknown d =
     let n = node_read d.nodes_of-x-items.ensures d.loop-i.i (omega arith) d.from-n.ensures in
     let e : d.from-n.result.kind ≡ kind_at d.args.t.now d.loop-i.i = cc in
-    unknown_some psl_rules d.args.t.now d.loop-i.i (omega (arith, e, d.in_default.ensures.0))
+    unknown_some psl_rules d.args.t.now d.loop-i.i (omega (arith, e, d.in_default.ensures))
 
 -- The node that was read is node i, and has its number.
 own : (p : After-places_fit) → p.from_index-own.result.0 ≡ p.loop-i.i
