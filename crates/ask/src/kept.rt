@@ -2,6 +2,7 @@
 use crate::faults::Fault;
 use crate::lists::KeptList;
 use crate::requests::Request;
+use arrayvec::ArrayVec;
 use formula_lines::read_formula;
 use logic::Letter;
 use ltl::check_ltl;
@@ -10,7 +11,6 @@ use node_lines::write_node;
 use psl::check_psl;
 use psl_verdict::psl_verdict;
 use std::alloc::{AllocError, Global};
-use std::fmt::Display;
 use std::io;
 use std::io::Write;
 use table::{Node, NodeNo, nodes_of};
@@ -52,16 +52,40 @@ pub struct Kept {
     room: usize,
 }
 
-// The members of a list with a space between them.
-fn write_list(list: &[impl Display + Copy], out: &mut impl Write) -> io::Result<()> {
+// Room for the text of some hundred numbers, and for that of one with the space before it.
+const TEXT_ROOM: usize = 2048;
+
+const NUMBER_ROOM: usize = 21;
+
+// A number in decimal, of which there is room. One digit, as of most numbers of a table, takes no more than a byte.
+fn put(text: &mut ArrayVec<u8, TEXT_ROOM>, n: u64) {
+    if n < 10 {
+        let _room = text.try_push(b'0' + n as u8);
+        return;
+    }
+    let mut digits = itoa::Buffer::new();
+    let _room = text.try_extend_from_slice(digits.format(n).as_bytes());
+}
+
+// The members of a list with a space between them. Many at a time, and not by `Display`: with `write!` for each number a list took three times as long.
+fn write_list<T: Copy>(list: &[T], out: &mut impl Write) -> io::Result<()>
+where
+    u64: From<T>,
+{
     let Some((first, others)) = list.split_first() else {
         return write!(out, "none");
     };
-    write!(out, "{first}")?;
+    let mut text: ArrayVec<u8, TEXT_ROOM> = ArrayVec::new();
+    put(&mut text, u64::from(*first));
     for x in others {
-        write!(out, " {x}")?;
+        if text.remaining_capacity() < NUMBER_ROOM {
+            out.write_all(&text)?;
+            text.clear();
+        }
+        let _room = text.try_push(b' ');
+        put(&mut text, u64::from(*x));
     }
-    Ok(())
+    out.write_all(&text)
 }
 
 // A node's line without its byte 10, or why there is none. As many bytes of an array are lent for it, as C lends

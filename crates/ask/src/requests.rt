@@ -3,8 +3,8 @@ use crate::faults::Fault;
 use logic::Letter;
 use std::alloc::Global;
 use std::str;
-use std::str::FromStr;
 use table::{Node, NodeNo};
+use text::numbers::decimal;
 use trace::Moment;
 
 #[derive(Drop)]
@@ -29,24 +29,19 @@ pub enum Request<'a> {
     Remark(&'a [u8]),
 }
 
-// A number in decimal, without a sign or leading zeros.
-fn number<T: FromStr>(digits: &[u8]) -> Result<T, Fault>
+// A number in decimal, as lines have it: without a sign or leading zeros.
+fn number<T: TryFrom<u64>>(digits: &[u8]) -> Result<T, Fault>
 where
-    T::Err: Drop,
+    T::Error: Drop,
 {
-    if !matches!(digits, [b'0'] | [b'1'..=b'9', ..]) {
-        return Err(Fault::NotUnderstood);
-    }
-    str::from_utf8(digits)
-        .ok()
-        .and_then(|text| text.parse().ok())
-        .ok_or(Fault::NotUnderstood)
+    let n = decimal(digits).ok_or(Fault::NotUnderstood)?;
+    T::try_from(n).ok().ok_or(Fault::NotUnderstood)
 }
 
 // Numbers with one space between them, or none at all.
-fn numbers<T: FromStr + Drop>(alloc: Global, list: Option<&[u8]>) -> Result<Vec<T>, Fault>
+fn numbers<T: TryFrom<u64> + Drop>(alloc: Global, list: Option<&[u8]>) -> Result<Vec<T>, Fault>
 where
-    T::Err: Drop,
+    T::Error: Drop,
 {
     let mut all = Vec::new(alloc);
     if let Some(list) = list {

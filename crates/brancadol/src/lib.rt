@@ -22,7 +22,6 @@ ghost use Rattle.brancadol.specs.Answer.{letter_after, PslCoded, LtlCoded, Trans
 use crate::value::Value;
 use logic::Letter;
 use table::{Node, NodeNo};
-use text::copy::copy_front;
 use trace::{Moment, Refusal, TraceView};
 
 // How many values an answer has room for: 2^56.
@@ -94,6 +93,16 @@ pub extern "C" fn brancadol_letter_at<'a>(
     put_letter(trace::letter_of(lead, cycle, Moment(moment)), letter)
 }
 
+// The letters of a part into a lent list from its start on, as many as have room. Not by `text::copy::copy_front`, which goes over a part to its end: a part may be long where the list is short.
+fn copy_letters(part: &[Letter], out: &mut [Letter])
+    ensures { out.new ≡ sets out.old 0 part.now }
+{
+    let end = part.len().min(out.len());
+    for i in 0..end {
+        out[i] = part[i];
+    }
+}
+
 // The length of the part; its letters stand in the lent list, as many as have room.
 #[unsafe(no_mangle)]
 pub extern "C" fn brancadol_rest<'a>(
@@ -106,7 +115,7 @@ pub extern "C" fn brancadol_rest<'a>(
     ensures out_after { out.new ≡ sets out.old 0 (rest_of lead.now cycle.now moment) }
 {
     let part = trace::rest_of(lead, cycle, Moment(moment));
-    copy_front(part, out);
+    copy_letters(part, out);
     success_code(part.len() as u64)
 }
 

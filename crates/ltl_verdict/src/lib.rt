@@ -67,7 +67,7 @@ pub fn judge_ltl(t: LtlTable<'_>, trace: TraceView<'_>) -> Verdict
     if letters == 0 {
         return Err(Refusal::EmptyTrace);
     }
-    Ok(ltl_holds(t, trace))
+    trace::decided(ltl_holds(t, trace))
 }
 
 // Refusals 11 to 15, then 9, then 16.

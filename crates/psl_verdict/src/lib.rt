@@ -93,7 +93,7 @@ pub fn judge_psl(t: PslTable<'_>, trace: TraceView<'_>) -> Verdict
     if MOST_LETTERS < trace.size() {
         return Err(Refusal::LongTrace);
     }
-    Ok(psl_holds(t, trace))
+    trace::decided(psl_holds(t, trace))
 }
 
 // Refusals 1 to 8, then 9. One line, as its twin of LTL: the contracts are of two meanings.

@@ -1,7 +1,7 @@
 // Rows: the truths of an LTL tree at all moments of a trace, in one word. not, and, or are one operation of the machine; RowLaw has what they tell.
 #![tactic(auto)]
 
-ghost use Rattle.std.specs.Prelude.{length, ◌≡◌, ℕ, ◌<◌, ◌≤◌, T, ◌↔◌, List, ◌++◌, ◌≢◌};
+ghost use Rattle.std.specs.Prelude.{length, ◌≡◌, ℕ, ◌%◌, ◌<◌, ◌≤◌, T, ◌↔◌, List, ◌++◌, ◌≢◌, Some, set};
 ghost use Rattle.logic.specs.Trace.{size};
 ghost use Rattle.logic.specs.Letter.{bit, signals};
 ghost use Rattle.logic.specs.Tree.{Ltl, lvar, lnot, land, lor, lnext, luntil};
@@ -65,6 +65,7 @@ impl<'a> SignalRows<'a> {
     // The row of signal k, modulo the number of signals.
     pub fn row(&mut self, k: u16) -> Row
         ensures same_trace { self.new.trace ≡ self.old.trace }
+        ensures kept { self.new.rows ≡ set self.old.rows (k % signals) (Some result) }
         ensures tells { k < signals → TellsOn self.old.trace result (lvar k) }
     {
         let s = k % SIGNALS;

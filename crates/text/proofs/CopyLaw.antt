@@ -1,18 +1,35 @@
 -- Parts copied into lists: as much as has room.
 use mathlib.Core.Path.{◌≡◌, refl, sym, ap, ◌∙◌}
 use mathlib.Core.List.{List, [], ◌∷◌, ◌++◌, append-nil}
-use Prim.Native.Nat.{ℕ, zero, suc, ◌+◌, ◌-◌, ◌≤◌, ◌<◌}
+use Prim.Native.Nat.{ℕ, zero, suc, ◌+◌, ◌-◌, ◌≤◌, ◌<◌, min}
 use native.Mathlib.Omega.{arith}
 use lib.ListN.{length, get_or, take, drop, set, length-take, length-drop, drop_of_length-le}
-use lib.Seq.{sets, take_all}
+use native.Mathlib.Decide.{dec_lt}
+use lib.Seq.{sets, set_out, length-sets, take_all}
 use borrow.Rule.Slice.PartMut.{put_mid, post_of, Post-is}
-use Rattle.std.proofs.lemmas.List.{take_more}
+use Rattle.std.proofs.lemmas.List.{take_more, take-append-drop}
 use Rattle.table.proofs.StoreLaw.{sets-sets}
 
 pub copied_more : {A : Type 0} (part l m : List A) (i : ℕ) (x : A) → i < length part → x ≡ get_or part i x → m ≡ sets l 0 (take i part) → set m i x ≡ sets l 0 (take (i + 1) part)
 copied_more part l m i x h e c =
     ap (λ k. set k i x) c ∙ sets-sets (take i part) (x ∷ []) l 0 i (omega (arith, length-take i part))
     ∙ ap (sets l 0) (ap (λ k. take i part ++ (k ∷ [])) e ∙ sym (take_more part i x h))
+
+-- What has no room is left out.
+sets_out : {A : Type 0} (w l : List A) (i : ℕ) → length l ≤ i → sets l i w ≡ l
+sets_out [] l i h = refl
+sets_out (x ∷ w) l i h = ap (λ k. sets k (suc i) w) (set_out l i x h) ∙ sets_out w l (suc i) (omega arith)
+
+-- Where the part or the room is over, all of the part that has room is copied.
+pub copied_all : {A : Type 0} (part l m : List A) (i : ℕ) → min (length part) (length l) ≤ i → m ≡ sets l 0 (take i part) → m ≡ sets l 0 part
+copied_all part l m i e c = c ∙ go (dec_lt i (length part))
+  where
+    go : Dec (i < length part) → sets l 0 (take i part) ≡ sets l 0 part
+    go (yes h) =
+        sym (sets_out (drop i part) (sets l 0 (take i part)) i (omega (arith, length-sets l 0 (take i part))))
+        ∙ sets-sets (take i part) (drop i part) l 0 i (omega (arith, length-take i part))
+        ∙ ap (sets l 0) (take-append-drop i part)
+    go (no h) = ap (sets l 0) (take_all i part (omega arith))
 
 sets-cons : (w l : List ℕ) (x i : ℕ) → sets (x ∷ l) (suc i) w ≡ x ∷ sets l i w
 sets-cons [] l x i = refl

@@ -7,4 +7,5 @@ pub mod ScanLaw
 pub mod WordLaw
 pub mod WriterLaw
 pub mod ClaimsLaw
-mod CopyLaw
+pub mod CopyLaw
+mod DecimalLaw

@@ -1,6 +1,6 @@
 // Reading numbers of a line.
 ghost use Rattle.std.specs.Prelude.{◌≡◌, ℕ, ◌+◌, ◌*◌};
-ghost use Rattle.text.specs.Inner.Scan.{DigitRead, Counts, NumberRead};
+ghost use Rattle.text.specs.Inner.Scan.{DigitRead, Counts, NumberRead, DecimalRead};
 
 use crate::scan::{Cursor, Fault};
 
@@ -45,5 +45,19 @@ impl<'a> Cursor<'a> {
         }
         *self = rest;
         Ok(value)
+    }
+}
+
+// The number that a whole line is, in decimal without leading zeros; none where it is none, or one of more than 64 bits.
+pub fn decimal(line: &[u8]) -> Option<u64>
+    ensures { DecimalRead line.now result }
+{
+    let mut cursor = Cursor { line, at: 0 };
+    let Ok(value) = cursor.number(u64::MAX) else {
+        return None;
+    };
+    match cursor.end() {
+        Ok(()) => value,
+        Err(_) => None,
     }
 }

@@ -3,7 +3,7 @@
 
 mod refusal;
 
-ghost use Rattle.std.specs.Prelude.{◌≡◌};
+ghost use Rattle.std.specs.Prelude.{◌≡◌, Ok};
 ghost use Rattle.logic.specs.Trace.{size};
 ghost use Rattle.trace.specs.Answer.{LetterIs, RestIs};
 
@@ -20,6 +20,13 @@ pub struct Moment(pub usize);
 // Whether a claim holds on a trace: true is yes.
 pub type Verdict = Result<bool, Refusal>;
 
+// Yes or no.
+pub fn decided(b: bool) -> Verdict
+    ensures { result ≡ Ok b }
+{
+    Ok(b)
+}
+
 // The letter of a moment. In the code the loop list is called `cycle`, since `loop` is a keyword.
 pub fn letter_at<'a>(lead: &'a [Letter], cycle: &'a [Letter], m: Moment) -> Result<Letter, Refusal>
     ensures { LetterIs lead.now cycle.now m.0 result }
@@ -28,10 +35,12 @@ pub fn letter_at<'a>(lead: &'a [Letter], cycle: &'a [Letter], m: Moment) -> Resu
     if at < lead.len() {
         return Ok(lead[at]);
     }
-    match (at - lead.len()).checked_rem(cycle.len()) {
-        Some(i) => Ok(cycle[i]),
-        None => Err(Refusal::NoMoment),
+    if cycle.len() == 0 {
+        return Err(Refusal::NoMoment);
     }
+    // Not by `checked_rem`, with which a letter of the loop took twice the time.
+    let i = (at - lead.len()) % cycle.len();
+    Ok(cycle[i])
 }
 
 // The rest of the list that a moment falls in, from that letter on.

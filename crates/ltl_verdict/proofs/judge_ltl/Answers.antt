@@ -14,6 +14,6 @@ returns-then-letters-eq0 c = let t = c.args.trace in
 
 pub returns : goal.returns
 returns c = let t = c.args.trace in
-    judged c.ltl_holds.result
+    rw c.decided.ensures (judged c.ltl_holds.result
     (ltl_fine c.args.t.numbers.now t.lead.now t.cycle.now c.args.t.accepted (omega (arith, c.size-letters.ensures)) (omega (arith, c.size-letters.ensures)))
-    c.ltl_holds.ensures
+    c.ltl_holds.ensures)

@@ -13,6 +13,6 @@ returns-then-size-gt-MOST_LETTERS c = let z = c.args.trace in
 pub returns : goal.returns
 unfolding psl_verdict_refusal
 returns c = let z = c.args.trace in
-    judged c.psl_holds.result
+    rw c.decided.ensures (judged c.psl_holds.result
     (not-long (psl_refusal c.args.t.numbers.now) z.lead.now z.cycle.now c.args.t.accepted (omega (arith, c.size.ensures, c.if-size-gt-MOST_LETTERS.false)))
-    c.psl_holds.ensures
+    c.psl_holds.ensures)

@@ -45,3 +45,8 @@ pub record NumberStands (n : ℕ) (s : List ℕ) (at next : ℕ) : Type 0 where
 abbrev pub NumberRead : List ℕ → ℕ → ℕ → ℕ → Result (Option ℕ) Fault → Type 0
 NumberRead s at limit next (Ok v) = (n : ℕ) × Counts limit n v × NumberStands n s at next
 NumberRead s at limit next (Err f) = (next ≡ at) × (at ≤ length s → Halts Numeral Numbered s at f.0) × (length s < at → f.0 ≡ at)
+
+-- The line is the digits of a number; or of none that has 64 bits.
+abbrev pub DecimalRead : List ℕ → Option ℕ → Type 0
+DecimalRead s (Some n) = s ≡ digits n
+DecimalRead s None = (n : ℕ) → n ≤ 18446744073709551615 → s ≡ digits n → ⊥
