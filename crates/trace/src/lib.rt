@@ -35,12 +35,10 @@ pub fn letter_at<'a>(lead: &'a [Letter], cycle: &'a [Letter], m: Moment) -> Resu
     if at < lead.len() {
         return Ok(lead[at]);
     }
-    if cycle.len() == 0 {
-        return Err(Refusal::NoMoment);
+    match (at - lead.len()).checked_rem(cycle.len()) {
+        Some(i) => Ok(cycle[i]),
+        None => Err(Refusal::NoMoment),
     }
-    // Not by `checked_rem`, with which a letter of the loop took twice the time.
-    let i = (at - lead.len()) % cycle.len();
-    Ok(cycle[i])
 }
 
 // The rest of the list that a moment falls in, from that letter on.
