@@ -57,17 +57,22 @@ const TEXT_ROOM: usize = 2048;
 
 const NUMBER_ROOM: usize = 21;
 
-// A number in decimal, of which there is room. One digit, as of most numbers of a table, takes no more than a byte.
+// A number in decimal, of which there is room. One digit or two, as most numbers of a table have, are put as bytes.
 fn put(text: &mut ArrayVec<u8, TEXT_ROOM>, n: u64) {
     if n < 10 {
         let _room = text.try_push(b'0' + n as u8);
+        return;
+    }
+    if n < 100 {
+        let _tens = text.try_push(b'0' + (n / 10) as u8);
+        let _ones = text.try_push(b'0' + (n % 10) as u8);
         return;
     }
     let mut digits = itoa::Buffer::new();
     let _room = text.try_extend_from_slice(digits.format(n).as_bytes());
 }
 
-// The members of a list with a space between them. Many at a time, and not by `Display`: with `write!` for each number a list took three times as long.
+// The members of a list with a space between them. Many at a time, and not by `Display`: with `write!` for each number a list took four times as long.
 fn write_list<T: Copy>(list: &[T], out: &mut impl Write) -> io::Result<()>
 where
     u64: From<T>,
